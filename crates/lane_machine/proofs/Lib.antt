@@ -14,3 +14,4 @@ pub mod ClearLemmas
 pub mod FirstPlaces
 pub mod LanesLemmas
 pub mod StandingLemmas
+pub mod SilentLemmas

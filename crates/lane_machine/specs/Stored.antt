@@ -159,6 +159,13 @@ pub record IsShared (f : StoredShared) : Type 0 where
   pub noted : f.state.noted ≡ words_before f.state.journal.items
   pub counts : AreCountsBelow (32 * f.state.stamp) f.state.body.value.counts
 
+-- what lanes share stands for the same
+pub record IsSameShared (f g : StoredShared) : Type 0 where
+  pub shared : shared_of g ≡ shared_of f
+  pub places : g.places.items ≡ f.places.items
+  pub body : g.state.body.value ≡ f.state.body.value
+  pub ended : g.ended ≡ f.ended
+
 -- there is room for one entry of the journal and one byte of output
 abbrev pub HasRoom : StoredShared → Type 0
 HasRoom f = states.HasRoom f.state

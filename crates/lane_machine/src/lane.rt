@@ -1,7 +1,7 @@
 //! A processor of a node of several.
 
-ghost use Rattle.std.specs.Prelude.{◌≡◌, ◌≢◌, ◌+◌, ◌^◌, ◌<◌, ◌≤◌, ℕ, None, true, IfOk};
-ghost use Rattle.std.specs.Prelude.{is_some, length};
+ghost use Rattle.std.specs.Prelude.{◌≡◌, ◌≢◌, ◌+◌, ◌^◌, ◌<◌, ◌≤◌, ℕ, [], None, true, false};
+ghost use Rattle.std.specs.Prelude.{IfOk, is_some, length};
 ghost use Rattle.exec_map.specs.Contents.{program_of};
 ghost use Rattle.lane_model.specs.node_model.Node as model;
 ghost use Rattle.lane_model.specs.node_model.Turns as turns;
@@ -12,8 +12,8 @@ ghost use Rattle.lane_model.specs.Turns as moves;
 ghost use Rattle.lane_model.specs.Core as core;
 ghost use Rattle.lane_machine.specs.Waits.{wait_among, waits_in};
 ghost use Rattle.lane_machine.specs.Places.{wait_at};
-ghost use Rattle.lane_machine.specs.Stored.{HasLane, HasRoom, HasGoneOn, IsHeld};
-ghost use Rattle.lane_machine.specs.Stored.{WaitsFor, part_of, work_of, with_lane};
+ghost use Rattle.lane_machine.specs.Stored.{HasLane, HasRoom, HasGoneOn, IsHeld, IsSameShared};
+ghost use Rattle.lane_machine.specs.Stored.{WaitsFor, lane_turn, part_of, work_of, with_lane};
 
 use crate::asking::NO_BLOCK;
 use crate::lane_protocol::LaneProtocol;
@@ -163,6 +163,42 @@ impl<'a> Lane<'a> {
         ensures work { work_of self.new shared.new ≡ work_of self.old shared.old }
     {
         self.inner.exec(&mut shared.inner, sends)
+    }
+
+    /// Executes the next word by its micro-op, where that serves it, the budget has a further word
+    /// for after it, and no other lane has reserved an address. Otherwise nothing changes.
+    #[inline]
+    pub fn exec_silent(&mut self, shared: &mut Shared<'_>) -> bool
+        requires number { self.old.number < length shared.old.places.items }
+        requires idle { (b : ℕ) → wait_at shared.old.places.items self.old.number b ≡ None }
+        requires may { model.can_execute (part_of self.old).phase ≡ true }
+        requires goes_on { shared.old.ended < length shared.old.places.items }
+        requires stamp { shared.old.state.stamp < 2 ^ 56 }
+        ensures turn { result ≡ true → (x : lanes.LaneNode) → HasLane self.old shared.old x →
+            moves.word_turn (work_of self.old shared.old) x self.old.number
+            ≡ lane_turn (with_lane x self.new shared.new) [] None }
+        ensures ended { result ≡ true → (x : lanes.LaneNode) → HasLane self.old shared.old x →
+            HasLane self.new shared.new (with_lane x self.new shared.new) }
+        ensures may { result ≡ true → model.can_execute (part_of self.new).phase ≡ true }
+        ensures waits { result ≡ true → WaitsFor self.new shared.new }
+        ensures held { result ≡ true → IsHeld self.new shared.new }
+        ensures places { result ≡ true
+            → waits_in shared.new.places.items ≡ waits_in shared.old.places.items }
+        ensures stamps { result ≡ true → shared.new.state.stamp ≡ shared.old.state.stamp + 1 }
+        ensures same { result ≡ false → self.new ≡ self.old }
+        ensures kept { result ≡ false → IsSameShared shared.old shared.new }
+        ensures number { self.new.number ≡ self.old.number }
+        ensures work { work_of self.new shared.new ≡ work_of self.old shared.old }
+    {
+        self.inner.exec_silent(&mut shared.inner)
+    }
+
+    /// Whether the lane may execute a word.
+    #[inline]
+    pub fn may_execute(&self) -> bool
+        ensures { result ≡ model.can_execute (part_of self.now).phase }
+    {
+        matches!(self.inner.state.phase, Phase::Running | Phase::Resumed)
     }
 
     /// Goes on where it waits for no block any more, by what its word's lines allow now.

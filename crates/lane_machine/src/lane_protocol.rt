@@ -4,6 +4,7 @@
 ghost use Rattle.std.specs.Prelude.{◌≡◌, ◌<◌, ◌≤◌, is_some, option_map, length};
 ghost use Rattle.home_directory.specs.declared.wait.Wait.{Wait};
 ghost use Rattle.lane_machine.specs.Waits.{wait_among, held_in, waits_in, all_waits};
+ghost use Rattle.lane_machine.specs.Places.{in_use};
 
 use block_layout::Block;
 use buf_pool::Pool;
@@ -40,6 +41,21 @@ pub(crate) fn swap_waits(protocol: &mut ProtocolState, place: &mut LaneProtocol)
     swap(&mut protocol.pool, &mut place.pool);
 }
 
+/// Puts a lane and its reservation in use, and what is in use in their place.
+#[inline(always)]
+pub(crate) fn swap_body(
+    body: &mut ExecState<'_>,
+    lane: &mut ProcessorState,
+    place: &mut LaneProtocol,
+)
+    ensures body { body.new ≡ in_use body.old lane.old place.old }
+    ensures lane { lane.new ≡ body.old.lane }
+    ensures place { place.new ≡ record place.old { reservation = body.old.local.reservation } }
+{
+    swap(&mut body.lane, lane);
+    body.local.swap_reservation(&mut place.reservation);
+}
+
 /// Puts a lane and its place in use, and what is in use in their place.
 pub(crate) fn swap_lane(
     body: &mut ExecState<'_>,
@@ -62,8 +78,7 @@ pub(crate) fn swap_lane(
       pool = protocol.old.pool;
     } }
 {
-    swap(&mut body.lane, lane);
-    body.local.swap_reservation(&mut place.reservation);
+    swap_body(body, lane, place);
     swap_waits(protocol, place);
 }
 

@@ -11,6 +11,7 @@ mod asking;
 mod lane;
 mod lane_protocol;
 mod shared;
+mod silent;
 mod stored;
 mod stores;
 mod taking;

@@ -59,7 +59,7 @@ all_there w =
 
 -- 2. Cores that are alike have the same choices
 
-same_filtered : (w : LaneWork) (f g : LaneEvent → Bool) (xs : List LaneEvent) → AllThere w xs
+pub same_filtered : (w : LaneWork) (f g : LaneEvent → Bool) (xs : List LaneEvent) → AllThere w xs
     → ((e : LaneEvent) → IsThere w e → f e ≡ g e) → filter f xs ≡ filter g xs
 same_filtered w f g [] there same = refl
 same_filtered w f g (x ∷ xs) there same =

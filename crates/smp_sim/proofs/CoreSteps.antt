@@ -3,7 +3,7 @@ use Rattle.std.proofs.Common.{◌≡◌, ℕ, suc, ◌+◌, ◌<◌, ◌≤◌, 
 use Rattle.std.specs.Prelude.{All}
 use Rattle.std.specs.Option.{option_to_list}
 use Rattle.std.proofs.Math.Path.{fun_ext}
-use Rattle.std.proofs.lemmas.List.{get_or-map, get_or-set_same, get_or-set_other, map-set, set-get_or, length-map, length-set}
+use Rattle.std.proofs.lemmas.List.{append-nil, get_or-map, get_or-set_same, get_or-set_other, map-set, set-get_or, length-map, length-set}
 use Rattle.std.proofs.lemmas.List.Elements.{All-append, All-cons, All-head, All-nil, All-tail}
 use Rattle.std.proofs.lemmas.Bool.Decides.{eqb_tells, leb_tells, nat_tests}
 use Rattle.home_directory.specs.dsm_messages.declared.messages.Post.{Post}
@@ -259,6 +259,15 @@ taken w i j ns0 ns1 q0 q1 q2 q3 o0 o1 x y stamp posts out wire below is same fir
         → All (λ (v : Wire). v.stamp ≤ m) (cond t a b)
     either m a b p q true = p
     either m a b p q false = q
+
+-- nothing is sent
+pub no_posts : (qs : List Queue) (n i stamp : ℕ) → IsSent qs qs n i stamp []
+no_posts qs n i stamp x k bx bk = go (eqb x i)
+  where
+    go : (b : Bool) → wires_of qs n x k
+        ≡ cond b (wires_of qs n x k ++ wires_to stamp k []) (wires_of qs n x k)
+    go true = sym (append-nil (wires_of qs n x k))
+    go false = refl
 
 -- 4. An event that is allowed can be made
 

@@ -6,3 +6,6 @@ pub mod Ends
 pub mod Firsts
 pub mod Choices
 pub mod Turns
+pub mod Silent
+pub mod SilentCore
+pub mod LanesTold

@@ -27,7 +27,7 @@ use Rattle.lane_machine.specs.node_words.declared.exec_state.ExecState.{ExecStat
 use Rattle.lane_machine.specs.node_machine.NodeState.{layout_of}
 use Rattle.lane_machine.specs.declared.lane_protocol.LaneProtocol.{LaneProtocol}
 use Rattle.lane_machine.specs.Places.{wait_at}
-use Rattle.lane_machine.specs.Stored.{AllHeld, AllWaitFor, AreLanes, HasLane, HaveLanes, HaveParts, IsAwaited, IsHeld, IsLaneOf, WaitsFor, ended_in, lane_turn, part_of, shared_of, with_lane, work_of}
+use Rattle.lane_machine.specs.Stored.{AllHeld, AllWaitFor, AreLanes, HasLane, HaveLanes, HaveParts, IsAwaited, IsHeld, IsLaneOf, IsSameShared, WaitsFor, ended_in, lane_turn, part_of, shared_of, with_lane, work_of}
 use Rattle.lane_machine.proofs.ExecLemmas.{count_same}
 use Rattle.smp_sim.specs.declared.node.SmpNode.{SmpNode}
 use Rattle.smp_sim.specs.CoreParts.{IsNode, node_in}
@@ -508,3 +508,32 @@ same_node w x f is places body ended = record {
   ended = λ y parts. ended ∙ is.ended y parts;
   idle = is.idle;
 }
+
+-- 6. One that stores the same stands for the same
+
+pub same_parts : (w : LaneWork) (x y : SmpNode) → y.lanes.items ≡ x.lanes.items
+    → IsSameShared x.shared y.shared → IsNode w x → IsNode w y
+same_parts w x y items shared here =
+    let is = same_node w x y.shared here shared.places shared.body shared.ended in
+    record {
+      lanes = subst (λ ls. AreLanes w ls y.shared) (sym items) is.lanes;
+      waits = subst (λ ls. AllWaitFor ls y.shared) (sym items) is.waits;
+      held = subst (λ ls. AllHeld ls y.shared) (sym items) is.held;
+      ended = subst (λ ls. (z : LaneNode) → HaveParts ls z → y.shared.ended ≡ ended_in z w.lanes)
+          (sym items) is.ended;
+      idle = subst (λ ls. (k : ℕ) (d : StoredLane) → k < w.lanes
+          → can_execute (part_of (get_or ls k d)).phase ≡ true
+          → (part_of (get_or ls k d)).awaits ≡ []) (sym items) is.idle;
+    }
+
+pub same_view : (w : LaneWork) (i : ℕ) (x y : SmpNode) → y.lanes.items ≡ x.lanes.items
+    → shared_of y.shared ≡ shared_of x.shared → node_in w i y ≡ node_in w i x
+same_view w i x y items shared = λ t. record {
+  lanes = λ k. get_or (map part_of (items t)) k (first_part w (processor_of w i k));
+  shared = shared t;
+}
+
+-- by what a call answered
+pub by_answer : {P : Type 0} (b : Bool) → (b ≡ true → P) → (b ≡ false → P) → P
+by_answer true then other = then refl
+by_answer false then other = other refl

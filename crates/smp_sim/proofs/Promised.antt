@@ -7,7 +7,7 @@ use Rattle.templates.specs.declared.plans.PlanEntry.{PlanEntry}
 use Rattle.home_directory.specs.dsm_messages.declared.messages.Wire.{Wire}
 use Rattle.lane_law.specs.dsm_protocol.Queue.{Queue, wires_of}
 use Rattle.lane_model.specs.Nodes.{LaneWork, LaneNode, processors}
-use Rattle.lane_model.specs.Core.{LaneCore, LaneEvent, May, is_over, opening_core, IsLaneRun, after}
+use Rattle.lane_model.specs.Core.{LaneCore, LaneEvent, May, is_over, opening_core, IsLaneRun, after, printed_by}
 use Rattle.lane_law.specs.Law.{AreAllOver, AreEmpty, GoesOn, RunsOnLanes, most_lane_events}
 use Rattle.smp_sim.specs.declared.node.SmpNode.{SmpNode}
 use Rattle.smp_sim.specs.CoreParts.{AreAlike, AreStored, CoreParts, HasStamps, HasStampsInRange, IsCore, IsRunTo, IsWork, core_of, core_with, work_of}
@@ -125,6 +125,19 @@ is_kept p ns qs out is are kept = record {
   run = is.run;
   leads = run_kept p ns qs out is.run kept is.leads;
   stamps = subst (HasStamps p.layout.nodes (length is.run)) (sym kept.core) is.stamps;
+}
+
+-- a core that stands for the same, and has printed the same
+pub run_same : (p q : CoreParts) → work_of q ≡ work_of p → core_of q ≡ core_of p
+    → q.output ≡ p.output → (run : List LaneEvent) → IsRunTo run p → IsRunTo run q
+run_same p q work core output run to = record {
+  is_run = subst (λ (v : LaneWork). IsLaneRun v (opening_core v) run) (sym work) to.is_run;
+  leads = subst (λ (v : LaneWork). AreAlike v.work.layout.nodes (core_of q)
+      (after v (opening_core v) run)) (sym work)
+      (subst (λ (c : LaneCore). AreAlike p.layout.nodes c
+      (after (work_of p) (opening_core (work_of p)) run)) (sym core) to.leads);
+  output = output ∙ to.output
+      ∙ ap (λ (v : LaneWork). printed_by v (opening_core v) run) (sym work);
 }
 
 pub is_stepped : {A E : Type 0} (r : Result A E) (p : CoreParts) (ns : List SmpNode)

@@ -1,9 +1,10 @@
 -- Helps the code alone: events of nodes and lists, as they are stored.
-use Rattle.std.specs.Prelude.{◌≡◌, ℕ, ◌+◌, ◌<◌, true, List, ◌++◌, map, slice_index_or, length}
+use Rattle.std.specs.Prelude.{◌≡◌, ℕ, ◌+◌, ◌<◌, true, List, [], ◌++◌, map, slice_index_or, length}
 use Rattle.lane_model.specs.node_model.Node.{can_execute}
 use Rattle.lane_law.specs.dsm_protocol.Queue.{Queue}
-use Rattle.lane_model.specs.Nodes.{LaneWork, opening_node, processor_of, first_part}
-use Rattle.lane_model.specs.Core.{LaneEvent, event_step, printed_at}
+use Rattle.lane_model.specs.Nodes.{LaneWork, opening_node, processor_of, node_of, lane_of, first_part}
+use Rattle.lane_model.specs.Turns.{word_turn}
+use Rattle.lane_model.specs.Core.{LaneCore, LaneEvent, event_step, printed_at}
 use Rattle.lane_machine.specs.declared.stored.StoredLane.{StoredLane}
 use Rattle.lane_machine.specs.Stored.{HasRoom, IsLaneOf, part_of}
 use Rattle.smp_sim.specs.declared.node.SmpNode.{SmpNode}
@@ -41,6 +42,13 @@ pub record HaveMade (w : LaneWork) (old_nodes new_nodes : List SmpNode)
   pub output : new_output ≡ old_output ++ printed_at w (core_with w old_nodes old_lists) e
   pub stamps : (most : ℕ) → HasStamps w.work.layout.nodes most (core_with w old_nodes old_lists)
       → HasStamps w.work.layout.nodes (most + 1) (core_with w new_nodes new_lists)
+
+-- the next word of processor p sends nothing, and the processor may execute another behind it
+pub record IsSilent (w : LaneWork) (c : LaneCore) (p : ℕ) : Type 0 where
+  pub sends : (word_turn w (c.nodes (node_of w p)) (lane_of w p)).sends ≡ []
+  pub may : can_execute
+      ((word_turn w (c.nodes (node_of w p)) (lane_of w p)).node.lanes (lane_of w p)).phase
+      ≡ true
 
 -- nothing has changed but room
 pub record HaveKept (w : LaneWork) (old_nodes new_nodes : List SmpNode)

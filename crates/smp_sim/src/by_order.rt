@@ -1,14 +1,17 @@
 //! A core of nodes of several processors whose events follow an order.
 
-ghost use Rattle.std.specs.Prelude.{◌≡◌, ◌≤◌, ◌*◌, List, Some, map, length, IfOk};
+ghost use Rattle.std.specs.Prelude.{◌≡◌, ◌≤◌, ◌*◌, ◌++◌, List, [], ◌∷◌, Some, map, length};
+ghost use Rattle.std.specs.Prelude.{IfOk, OnOk};
+ghost use Rattle.std.specs.Vec.{vec_capacity};
 ghost use Rattle.templates.specs.declared.plans.PlanEntry.{PlanEntry};
 ghost use Rattle.random_order.specs.Orders.{following};
 ghost use Rattle.dsm_core.specs.rewriting_law.Bounds.{RunsRewritten};
 ghost use Rattle.dsm_core.specs.CoreParts.{work_in, outcome_of};
-ghost use Rattle.lane_model.specs.Core.{LaneEvent};
+ghost use Rattle.lane_model.specs.Core.{Exec, LaneEvent, May};
 ghost use Rattle.lane_law.specs.Law.{Interleaves, RunsOnLanes};
-ghost use Rattle.smp_sim.specs.CoreParts.{event_of, work_with};
-ghost use Rattle.smp_sim.specs.ByOrder.{IsLaneOutcomeByOrder, IsLaneRunByOrder, pick_among};
+ghost use Rattle.smp_sim.specs.CoreParts.{IsRunTo, core_of, event_of, work_of, work_with};
+ghost use Rattle.smp_sim.specs.ByOrder.{IsLaneOutcomeByOrder, IsLaneRunByOrder};
+ghost use Rattle.smp_sim.specs.ByOrder.{choices, pick_among};
 
 use crate::cores::{SmpCore, SmpEvent};
 use crate::listing::{MOST_EVENTS, list_events};
@@ -43,13 +46,14 @@ pub fn smp_simulate(
     let mut core = SmpCore::new(alloc, work, lanes)?;
     let mut order = order_of(order);
     let mut events = Vec::with_capacity(alloc, MOST_EVENTS)?;
+    list_events(&core, &mut events);
     for _turn in 0..u64::MAX {
-        list_events(&core, &mut events);
         if events.is_empty() {
             core.promises();
             return core.outcome(alloc);
         }
-        core.step(pick(&events, &mut order))?;
+        let event = pick(&events, &mut order);
+        make(&mut core, &mut events, event)?;
     }
     core.promises();
     unreachable!()
@@ -65,4 +69,71 @@ fn pick(events: &[SmpEvent], order: &mut Order) -> SmpEvent
 {
     let place = order.next(events.len() as u32);
     events[place as usize]
+}
+
+/// Makes an event that is allowed, and lists those that are allowed then.
+fn make(
+    core: &mut SmpCore<'_>,
+    events: &mut Vec<SmpEvent>,
+    event: SmpEvent,
+) -> Result<(), AllocError>
+    requires enabled { May (work_of core.old) (core_of core.old) (event_of event) }
+    requires listed { map event_of events.old.items
+        ≡ choices (work_of core.old) (core_of core.old) }
+    requires room { 272 ≤ vec_capacity events.old }
+    ensures run { OnOk result ((run : List LaneEvent) → IsRunTo run core.old
+        → IsRunTo (run ++ event_of event ∷ []) core.new) }
+    ensures listed { OnOk result (map event_of events.new.items
+        ≡ choices (work_of core.new) (core_of core.new)) }
+    ensures work { work_of core.new ≡ work_of core.old }
+    ensures room { vec_capacity events.new ≡ vec_capacity events.old }
+{
+    match event {
+        SmpEvent::Exec(processor) => exec(core, events, processor),
+        SmpEvent::Take { .. } => step(core, events, event),
+    }
+}
+
+/// A processor that may execute a word does so. One that its micro-op serves leaves the list as it
+/// was, where no message is on its way to its node.
+fn exec(core: &mut SmpCore<'_>, events: &mut Vec<SmpEvent>, processor: u8) -> Result<(), AllocError>
+    requires enabled { May (work_of core.old) (core_of core.old) (Exec processor) }
+    requires listed { map event_of events.old.items
+        ≡ choices (work_of core.old) (core_of core.old) }
+    requires room { 272 ≤ vec_capacity events.old }
+    ensures run { OnOk result ((run : List LaneEvent) → IsRunTo run core.old
+        → IsRunTo (run ++ Exec processor ∷ []) core.new) }
+    ensures listed { OnOk result (map event_of events.new.items
+        ≡ choices (work_of core.new) (core_of core.new)) }
+    ensures work { work_of core.new ≡ work_of core.old }
+    ensures room { vec_capacity events.new ≡ vec_capacity events.old }
+{
+    if !core.exec_silent(processor) {
+        return step(core, events, SmpEvent::Exec(processor));
+    }
+    if core.has_mail(processor) {
+        list_events(core, events);
+        return Ok(());
+    }
+    Ok(())
+}
+
+/// Makes an event that is allowed, and lists all those that are allowed then.
+fn step(
+    core: &mut SmpCore<'_>,
+    events: &mut Vec<SmpEvent>,
+    event: SmpEvent,
+) -> Result<(), AllocError>
+    requires enabled { May (work_of core.old) (core_of core.old) (event_of event) }
+    requires room { 272 ≤ vec_capacity events.old }
+    ensures run { OnOk result ((run : List LaneEvent) → IsRunTo run core.old
+        → IsRunTo (run ++ event_of event ∷ []) core.new) }
+    ensures listed { OnOk result (map event_of events.new.items
+        ≡ choices (work_of core.new) (core_of core.new)) }
+    ensures work { work_of core.new ≡ work_of core.old }
+    ensures room { vec_capacity events.new ≡ vec_capacity events.old }
+{
+    core.step(event)?;
+    list_events(core, events);
+    Ok(())
 }

@@ -1,19 +1,20 @@
 //! n nodes of several processors that run rewritten code, and the n × n lists of messages between
 //! the nodes.
 
-ghost use Rattle.std.specs.Prelude.{◌≡◌, ◌*◌, ◌<◌, ◌≤◌, ◌↔◌, ◌++◌, List, [], ◌∷◌, true, length};
-ghost use Rattle.std.specs.Prelude.{IfOk, OnOk, OnErr};
+ghost use Rattle.std.specs.Prelude.{◌≡◌, ◌*◌, ◌<◌, ◌≤◌, ◌↔◌, ◌++◌, ℕ, List, [], ◌∷◌, true, false};
+ghost use Rattle.std.specs.Prelude.{length, IfOk, OnOk, OnErr};
 ghost use Rattle.dsm_core.specs.rewriting_law.Bounds.{RunsRewritten};
-ghost use Rattle.lane_model.specs.Nodes.{processors};
+ghost use Rattle.lane_model.specs.Nodes.{node_of, processors};
 ghost use Rattle.lane_model.specs.Core as model;
 ghost use Rattle.lane_model.specs.Core.{May, event_step, opening_core};
 ghost use Rattle.lane_law.specs.Law.{AreAllOver, AreEmpty, GoesOn, most_lane_events};
 ghost use Rattle.dsm_core.specs.CoreParts.{work_in};
 ghost use Rattle.smp_sim.specs.CoreParts.{AreAlike, IsNode, IsRunTo, core_of, event_of, node_in};
 ghost use Rattle.smp_sim.specs.CoreParts.{work_of, work_with};
+ghost use Rattle.smp_sim.specs.CoreSteps.{IsSilent};
 
 use crate::node::SmpNode;
-use crate::steps::{are_over, first_nodes, is_enabled, make};
+use crate::steps::{are_over, first_nodes, has_mail, is_enabled, make};
 use crate::work::SmpWork;
 use dsm_core::Work;
 use home_directory::dsm_messages::Sends;
@@ -196,5 +197,37 @@ impl<'a> SmpCore<'a> {
             &self.work,
             event,
         )
+    }
+
+    /// A processor that may execute a word does so by its micro-op, where that serves it and no
+    /// other processor of its node has reserved an address, and says whether it did. The word sends
+    /// nothing, and the processor may execute another behind it. Otherwise nothing changes.
+    pub(crate) fn exec_silent(&mut self, processor: u8) -> bool
+        requires enabled { May (work_of self.old) (core_of self.old) (model.Exec processor) }
+        ensures silent { result ≡ true → IsSilent (work_of self.old) (core_of self.old) processor }
+        ensures event { result ≡ true → AreAlike self.old.layout.nodes (core_of self.new)
+            (event_step (work_of self.old) (core_of self.old) (model.Exec processor)) }
+        ensures run { result ≡ true → (run : List model.LaneEvent) → IsRunTo run self.old
+            → IsRunTo (run ++ model.Exec processor ∷ []) self.new }
+        ensures kept { result ≡ false → core_of self.new ≡ core_of self.old }
+        ensures output { self.new.output ≡ self.old.output }
+        ensures work { work_of self.new ≡ work_of self.old }
+        ensures some { 0 < self.old.lanes }
+    {
+        lane_progress_law();
+        let node = processor / self.work.lanes;
+        let lane = processor % self.work.lanes;
+        self.nodes[node as usize].exec_silent(lane)
+    }
+
+    /// Whether a message is on its way to the node of a processor.
+    pub(crate) fn has_mail(&self, processor: u8) -> bool
+        requires processor { processor < processors (work_of self.now) }
+        ensures { result ≡ false → (from : ℕ) → from < self.now.layout.nodes
+            → (core_of self.now).list from (node_of (work_of self.now) processor) ≡ [] }
+    {
+        let count = self.work.layout.nodes();
+        let node = processor / self.work.lanes;
+        has_mail(&self.lists, count, node)
     }
 }

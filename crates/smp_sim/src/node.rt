@@ -1,7 +1,7 @@
 //! A node of several processors, as it is stored, and its events.
 
-ghost use Rattle.std.specs.Prelude.{◌≡◌, ◌+◌, ◌^◌, ◌<◌, ◌≤◌, ℕ, true, IfOk, OnOk};
-ghost use Rattle.std.specs.Prelude.{List, ◌∷◌, length};
+ghost use Rattle.std.specs.Prelude.{◌≡◌, ◌+◌, ◌^◌, ◌<◌, ◌≤◌, ℕ, true, false, IfOk, OnOk};
+ghost use Rattle.std.specs.Prelude.{List, [], ◌∷◌, None, length};
 ghost use Rattle.home_directory.specs.dsm_messages.declared.messages.Wire.{Wire as Sent};
 ghost use Rattle.lane_machine.specs.miss_handlers.Rows.{takes_away};
 ghost use Rattle.lane_model.specs.node_model.Core as plain;
@@ -77,6 +77,25 @@ impl<'a> SmpNode<'a> {
         self.lanes[lane as usize].exec(&mut self.shared, sends)
     }
 
+    /// A lane executes its next word by its micro-op, where that serves it and no other lane has
+    /// reserved an address, and says whether it did. Otherwise nothing changes.
+    pub fn exec_silent(&mut self, lane: u8) -> bool
+        requires node { (w : LaneWork) × IsNode w self.old }
+        requires lane { lane < length self.old.lanes.items }
+        requires may { CanExecute self.old lane }
+        requires stamp { self.old.shared.state.stamp < 2 ^ 56 }
+        ensures is_node { (w : LaneWork) → IsNode w self.old → IsNode w self.new }
+        ensures turn { result ≡ true → (w : LaneWork) (i : ℕ) → IsNode w self.old
+            → word_turn w (node_in w i self.old) lane ≡ lane_turn (node_in w i self.new) [] None }
+        ensures may { result ≡ true → CanExecute self.new lane }
+        ensures stamps { result ≡ true
+            → self.new.shared.state.stamp ≡ self.old.shared.state.stamp + 1 }
+        ensures kept { result ≡ false → (w : LaneWork) (i : ℕ)
+            → node_in w i self.new ≡ node_in w i self.old }
+    {
+        self.lanes[lane as usize].exec_silent(&mut self.shared)
+    }
+
     /// Takes a message from a node, and leaves what this one sends, in order.
     pub fn take(&mut self, from: u8, wire: Wire, sends: &mut Sends) -> Turn
         requires node { (w : LaneWork) × IsNode w self.old }
@@ -109,7 +128,7 @@ impl<'a> SmpNode<'a> {
         ensures value { (w : LaneWork) (i : ℕ) → IsNode w self.now
             → result ≡ plain.may_execute (core.standing_of w (node_in w i self.now) lane) }
     {
-        self.standing(lane).may_execute()
+        self.lanes[lane as usize].may_execute()
     }
 
     /// Whether a lane lets the node take a message.
@@ -127,11 +146,12 @@ impl<'a> SmpNode<'a> {
         ensures value { (w : LaneWork) (i : ℕ) → IsNode w self.now
             → result ≡ some_lane (core.lane_lets w (node_in w i self.now)) lanes }
     {
-        let mut some = false;
         for lane in 0..lanes {
-            some = self.lets(lane) || some;
+            if self.lets(lane) {
+                return true;
+            }
         }
-        some
+        false
     }
 
     /// Whether each of so many lanes does.
@@ -140,21 +160,27 @@ impl<'a> SmpNode<'a> {
         ensures value { (w : LaneWork) (i : ℕ) → IsNode w self.now
             → result ≡ all_lanes (core.lane_lets w (node_in w i self.now)) lanes }
     {
-        let mut all = true;
         for lane in 0..lanes {
-            all = self.lets(lane) && all;
+            if !self.lets(lane) {
+                return false;
+            }
         }
-        all
+        true
     }
 
     /// Whether the node, which has so many lanes, may take a message.
     pub fn can_take(&self, lanes: u8, message: &Message) -> bool
         requires lanes { lanes ≡ length self.now.lanes.items }
+        requires some { 0 < lanes }
         ensures value { (w : LaneWork) (i : ℕ) (wire : Sent) (rest : List Sent)
             → IsNode w self.now → message.now ≡ wire.message
             → result ≡ core.may_take_first w (node_in w i self.now) (wire ∷ rest) }
     {
-        self.some_lets(lanes) && (!takes_away(message) || self.all_let(lanes))
+        if takes_away(message) {
+            self.all_let(lanes)
+        } else {
+            self.some_lets(lanes)
+        }
     }
 
     /// Whether all lanes have ended, and all nodes have said so of theirs.

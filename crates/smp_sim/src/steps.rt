@@ -1,11 +1,11 @@
 //! Events of nodes of several processors, and of the lists between them.
 
-ghost use Rattle.std.specs.Prelude.{◌≡◌, ◌<◌, ◌≤◌, ◌↔◌, ◌++◌, true, length, IfOk, OnOk};
-ghost use Rattle.std.specs.Prelude.{OnErr};
+ghost use Rattle.std.specs.Prelude.{◌≡◌, ◌≢◌, ◌<◌, ◌≤◌, ◌↔◌, ◌++◌, ℕ, [], true, false, length};
+ghost use Rattle.std.specs.Prelude.{IfOk, OnOk, OnErr};
 ghost use Rattle.std.specs.Option.{option_to_list};
 ghost use Rattle.std.specs.Vec.{vec_capacity};
 ghost use Rattle.lane_model.specs.node_model.Node.{IsLaidOver};
-ghost use Rattle.lane_law.specs.dsm_protocol.Queue.{HasRoom};
+ghost use Rattle.lane_law.specs.dsm_protocol.Queue.{AreQueues, HasRoom, wires_of};
 ghost use Rattle.lane_model.specs.Nodes.{processors};
 ghost use Rattle.lane_model.specs.Core as model;
 ghost use Rattle.lane_model.specs.Core.{May};
@@ -98,6 +98,7 @@ fn can_execute(nodes: &[SmpNode<'_>], lists: &[Queue], work: &SmpWork<'_>, proce
 /// Whether a node may take a message from another.
 fn can_take(nodes: &[SmpNode<'_>], lists: &[Queue], work: &SmpWork<'_>, node: u8, from: u8) -> bool
     requires stored { AreStored (lane_work work.now) nodes.now lists.now }
+    requires some { 0 < work.now.lanes }
     ensures value { (result ≡ true) ↔ May (lane_work work.now)
         (core_with (lane_work work.now) nodes.now lists.now) (model.Take node from) }
 {
@@ -112,6 +113,34 @@ fn can_take(nodes: &[SmpNode<'_>], lists: &[Queue], work: &SmpWork<'_>, node: u8
         Some(wire) => nodes[node as usize].can_take(work.lanes, &wire.message),
         None => false,
     }
+}
+
+/// Whether a message is on its way from one node to another.
+fn has_wire(lists: &[Queue], count: u8, from: u8, to: u8) -> bool
+    requires lists { AreQueues lists.now count }
+    requires from { from < count }
+    requires to { to < count }
+    ensures value { (result ≡ true) ↔ (wires_of lists.now count from to ≢ []) }
+{
+    match first_wire(lists, count, from, to) {
+        Some(_) => true,
+        None => false,
+    }
+}
+
+/// Whether a message is on its way to a node.
+pub(crate) fn has_mail(lists: &[Queue], count: u8, node: u8) -> bool
+    requires lists { AreQueues lists.now count }
+    requires node { node < count }
+    ensures value { result ≡ false
+        → (from : ℕ) → from < count → wires_of lists.now count from node ≡ [] }
+{
+    for from in 0..count {
+        if has_wire(lists, count, from, node) {
+            return true;
+        }
+    }
+    false
 }
 
 /// Makes room for an event of a node.

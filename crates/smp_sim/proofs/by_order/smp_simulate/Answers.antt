@@ -15,12 +15,12 @@ use Rattle.smp_sim.proofs.by_order.smp_simulate.Goals as goal
 
 pub outcome-requires : goal.outcome-requires
 outcome-requires c =
-    let p = c.loop-turn.core in
-    let events = c.list_events.new.events in
-    let none : length events.items ≡ 0 = grind (arith, c.is_empty.ensures, c.if-is_empty.true, events.ok) in
+    let l = c.loop-turn in
+    let p = l.core in
+    let none : length l.events.items ≡ 0 = grind (arith, c.is_empty.ensures, c.if-is_empty.true, l.events.ok) in
     record {
       over = over_without (work_of p) (core_of p)
-          (none_listed events.items _ c.list_events.ensures.listed none) c.promises.ensures.goes_on;
+          (none_listed l.events.items _ l.invariant.listed none) c.promises.ensures.goes_on;
     }
 
 pub returns-then-is_empty-clause-outcome : goal.returns-then-is_empty-clause-outcome
@@ -28,9 +28,8 @@ returns-then-is_empty-clause-outcome c =
     let l = c.loop-turn in
     let p = l.core in
     let w = work_of p in
-    let events = c.list_events.new.events in
-    let zero : length events.items ≡ 0 = grind (arith, c.is_empty.ensures, c.if-is_empty.true, events.ok) in
-    let none = none_listed events.items _ c.list_events.ensures.listed zero in
+    let zero : length l.events.items ≡ 0 = grind (arith, c.is_empty.ensures, c.if-is_empty.true, l.events.ok) in
+    let none = none_listed l.events.items _ l.invariant.listed zero in
     let over = over_without w (core_of p) none c.promises.ensures.goes_on in
     subst (λ (v : LaneWork). IfOk c.outcome.result
     (λ (o : Outcome). IsLaneOutcomeByOrder v c.args.order (outcome_of o)))
@@ -46,19 +45,17 @@ pub returns-then-is_empty-clause-interleaves : goal.returns-then-is_empty-clause
 returns-then-is_empty-clause-interleaves c = λ plan events runs run.
     c.lane_law.ensures.interleaves (work_with (work_in c.args.work.now) c.args.lanes) plan events runs run.is_run
 
-pub step-requires : goal.step-requires
-step-requires c =
+pub make-requires-clause-enabled : goal.make-requires-clause-enabled
+make-requires-clause-enabled c =
     let l = c.loop-turn in
     let w = work_of l.core in
-    let e = event_of c.pick.result in
-    record {
-      enabled = picked_may w (core_of l.core) (following l.order) e
-          (picked_here w (core_of l.core) c.deref.result.now c.list_events.new.events.items (following l.order) e
-          c.deref.ensures.value c.list_events.ensures.listed c.pick.ensures.picked);
-    }
+    let e = event_of c.pick-event.result in
+    picked_may w (core_of l.core) (following l.order) e
+    (picked_here w (core_of l.core) c.deref.result.now l.events.items (following l.order) e
+    c.deref.ensures.value l.invariant.listed c.pick-event.ensures.picked)
 
-pub returns-in_err-step-clause-interleaves : goal.returns-in_err-step-clause-interleaves
-returns-in_err-step-clause-interleaves c = λ plan events runs run.
+pub returns-in_err-make-clause-interleaves : goal.returns-in_err-make-clause-interleaves
+returns-in_err-make-clause-interleaves c = λ plan events runs run.
     c.lane_law.ensures.interleaves (work_with (work_in c.args.work.now) c.args.lanes) plan events runs run.is_run
 
 pub loop-turn-preserved : goal.loop-turn-preserved
@@ -66,17 +63,18 @@ loop-turn-preserved c =
     let l = c.loop-turn in
     let p = l.core in
     let w = work_of p in
-    let e = event_of c.pick.result in
-    let made = c.in_ok-step.ensures in
+    let e = event_of c.pick-event.result in
+    let made = c.in_ok-make.ensures in
     let lanes = ap (λ (v : LaneWork). v.lanes) l.invariant.work in
     let some : 0 < p.lanes = omega (arith, lanes, c.requires.some) in
     record {
       work = made.work ∙ l.invariant.work;
-      room = subst (λ k. 272 ≤ k) (sym c.list_events.ensures.room) l.invariant.room;
-      leads = leads_more c.args.order l._turn l.order c.pick.new.order p c.step.new.self e some made.work
-          (picked_here w (core_of p) c.deref.result.now c.list_events.new.events.items (following l.order) e
-          c.deref.ensures.value c.list_events.ensures.listed c.pick.ensures.picked)
-          c.pick.ensures.goes_on made.run l.invariant.leads;
+      room = subst (λ k. 272 ≤ k) (sym made.room) l.invariant.room;
+      listed = made.listed;
+      leads = leads_more c.args.order l._turn l.order c.pick-event.new.order p c.make.new.core e some made.work
+          (picked_here w (core_of p) c.deref.result.now l.events.items (following l.order) e
+          c.deref.ensures.value l.invariant.listed c.pick-event.ensures.picked)
+          c.pick-event.ensures.goes_on made.run l.invariant.leads;
     }
 
 pub unreachable-requires : goal.unreachable-requires

@@ -1,4 +1,4 @@
-use Rattle.std.proofs.Common.{◌≡◌, ℕ}
+use Rattle.std.proofs.Common.{◌≡◌, ℕ, true}
 use Rattle.lane_model.specs.Nodes.{LaneWork, all_lanes}
 use Rattle.lane_model.specs.Core.{lane_lets}
 use Rattle.smp_sim.specs.CoreParts.{IsNode, node_in}
@@ -7,5 +7,5 @@ use Rattle.smp_sim.proofs.node.SmpNode.all_let.Given as goal
 abbrev pub invariant-loop-lane : goal.invariant-loop-lane
 invariant-loop-lane l = record {
   all : (w : LaneWork) (i : ℕ) → IsNode w l.self
-      → l.all ≡ all_lanes (lane_lets w (node_in w i l.self)) l.lane;
+      → all_lanes (lane_lets w (node_in w i l.self)) l.lane ≡ true;
 }

@@ -1,9 +1,23 @@
--- By the lane's standing.
-use Rattle.std.proofs.Common.{ap, ◌∙◌}
-use Rattle.lane_model.specs.node_model.Core.{may_execute}
+-- By the lane's phase.
+use Rattle.std.proofs.Common.{ap, sym, ◌∙◌}
+use Rattle.lane_model.specs.node_model.Node.{can_execute}
+use Rattle.lane_model.specs.Nodes.{LanePart}
+use Rattle.lane_machine.specs.declared.stored.StoredLane.{StoredLane}
+use Rattle.lane_machine.specs.Stored.{part_of}
+use Rattle.smp_sim.specs.CoreParts.{node_in}
+use Rattle.smp_sim.proofs.NodeLemmas.{part_at}
+use Rattle.smp_sim.proofs.Silent.{may_is}
 use Rattle.smp_sim.proofs.node.SmpNode.can_execute.Goals as goal
 
 pub returns : goal.returns
 returns c = record {
-  value = λ w i is. c.may_execute.ensures ∙ ap may_execute (c.standing.ensures.value w i is);
+  value = λ w i is.
+      let x = c.args.self.now in
+      let k = c.args.lane in
+      let l = c.index.result.now in
+      let y = node_in w i x in
+      c.may_execute.ensures
+      ∙ ap (λ (z : StoredLane). can_execute (part_of z).phase) c.index.ensures
+      ∙ ap (λ (p : LanePart). can_execute p.phase) (sym (part_at w i x k l c.requires.lane))
+      ∙ sym (may_is w y k (y.lanes k).phase);
 }

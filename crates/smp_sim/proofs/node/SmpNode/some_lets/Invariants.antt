@@ -1,4 +1,4 @@
-use Rattle.std.proofs.Common.{◌≡◌, ℕ}
+use Rattle.std.proofs.Common.{◌≡◌, ℕ, false}
 use Rattle.lane_model.specs.Nodes.{LaneWork, some_lane}
 use Rattle.lane_model.specs.Core.{lane_lets}
 use Rattle.smp_sim.specs.CoreParts.{IsNode, node_in}
@@ -7,5 +7,5 @@ use Rattle.smp_sim.proofs.node.SmpNode.some_lets.Given as goal
 abbrev pub invariant-loop-lane : goal.invariant-loop-lane
 invariant-loop-lane l = record {
   some : (w : LaneWork) (i : ℕ) → IsNode w l.self
-      → l.some ≡ some_lane (lane_lets w (node_in w i l.self)) l.lane;
+      → some_lane (lane_lets w (node_in w i l.self)) l.lane ≡ false;
 }
