@@ -8,4 +8,5 @@ mod stops;
 
 pub use gdb_session;
 pub use run::DebuggedRun;
+pub use stops::mover_at;
 pub use time_machine;

@@ -1,11 +1,13 @@
 //! A run on one memory, as a target of the debugger.
 
-ghost use Rattle.std.specs.Prelude.{◌≡◌, ◌<◌, true, length, IfOk, OnOk};
-ghost use Rattle.debugged_run.specs.Motions.{Goes, GoesFrom, behind_access, watches};
+ghost use Rattle.std.specs.Prelude.{◌≡◌, ◌<◌, ◌≤◌, true, length, IfOk, OnOk};
+ghost use Rattle.debugged_run.specs.Commands.{told_of as model_told_of};
+ghost use Rattle.debugged_run.specs.Motions.{Goes, GoesFrom, Moves, behind_access, watches};
 ghost use Rattle.debugged_run.specs.Motions.{place_here as model_place, told_here as model_told};
 ghost use Rattle.debugged_run.specs.Seen.{doing_seen, register_seen};
 ghost use Rattle.gdb_remote.specs.declared.request.Direction.TheVariants.{Backwards, Forwards};
 ghost use Rattle.one_memory.specs.Shown.{byte_shown};
+ghost use Rattle.time_machine.specs.Moves.{EndsBackward};
 ghost use Rattle.time_machine.specs.Stand.{IsInterleaved, original_in, state_at};
 
 use crate::commands::told_of;
@@ -21,8 +23,8 @@ use run_limits::NodeCount;
 use rv32_decode::Reg;
 use std::alloc::{AllocError, Global};
 use std::marker::Model;
-use time_machine::TimeMachine;
 use time_machine::one_memory::Pick;
+use time_machine::{StopPoint, TimeMachine};
 
 /// A run on one memory, and the position in it from which the debugger sees it. A motion that runs
 /// out of memory may end at any position.
@@ -77,6 +79,60 @@ impl<'a> DebuggedRun<'a> {
             nodes,
             machine,
         })
+    }
+
+    /// How many picks have been made.
+    pub fn position(&self) -> usize
+        ensures value { result ≡ self.now.position }
+        ensures within { result ≤ length self.now.run.picks }
+    {
+        self.machine.position()
+    }
+
+    /// All picks of the run.
+    pub fn picks(&self) -> &[Pick]
+        ensures { result.now ≡ self.now.run.picks }
+    {
+        self.machine.picks()
+    }
+
+    /// Goes to a position.
+    pub fn go_to(&mut self, position: usize) -> Result<(), AllocError>
+        requires { position ≤ length self.old.run.picks }
+        ensures run { self.new.run ≡ self.old.run }
+        ensures ok { OnOk result (self.new.position ≡ position) }
+    {
+        self.machine.go_to(self.alloc, position)
+    }
+
+    /// Goes backwards to before the last pick that hits a stop, and gives the number of the first
+    /// stop that it hits; or to the start, if no pick hits any.
+    pub fn back_to_stop(&mut self, stops: &[StopPoint]) -> Result<Option<usize>, AllocError>
+        ensures run { self.new.run ≡ self.old.run }
+        ensures ends { IfOk result (λ stop. EndsBackward self.old.run stops.now self.old.position
+            stop self.new.position) }
+    {
+        self.machine.back_to_stop(self.alloc, stops)
+    }
+
+    /// Goes on, and says where it stopped, and why. It stays a position of this run, also where it
+    /// fails.
+    pub fn go_on(&mut self, motion: Motion, points: &[Point]) -> Result<Stop, AllocError>
+        ensures run { self.new.run ≡ self.old.run }
+        ensures moves { IfOk result (λ stop. Moves self.old motion points.now stop self.new) }
+    {
+        let points = watches_first(self.alloc, points)?;
+        match motion.direction {
+            Direction::Forwards => self.forwards(motion.reach, &points),
+            Direction::Backwards => self.backwards(motion.reach, &points),
+        }
+    }
+
+    /// What a command tells.
+    pub fn tell(&self, alloc: Global, command: &[u8]) -> Result<Vec<u8>, AllocError>
+        ensures { IfOk result (λ told. told.items ≡ model_told_of self.now command.now) }
+    {
+        told_of(alloc, &self.machine, command)
     }
 
     /// Goes forwards to what the motion stops at, or to the end of the run.
@@ -239,14 +295,10 @@ impl<'a> Target for DebuggedRun<'a> {
     }
 
     fn go(&mut self, motion: Motion, points: &[Point]) -> Result<Stop, AllocError> {
-        let points = watches_first(self.alloc, points)?;
-        match motion.direction {
-            Direction::Forwards => self.forwards(motion.reach, &points),
-            Direction::Backwards => self.backwards(motion.reach, &points),
-        }
+        self.go_on(motion, points)
     }
 
     fn command(&mut self, alloc: Global, text: &[u8]) -> Result<Vec<u8>, AllocError> {
-        told_of(alloc, &self.machine, text)
+        self.tell(alloc, text)
     }
 }

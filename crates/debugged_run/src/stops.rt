@@ -249,7 +249,7 @@ fn why_of(stop: Option<usize>, point: Option<Point>, otherwise: Why) -> Why
 }
 
 /// The processor of the pick with a number, or processor 0 where there is none.
-pub(crate) fn mover_at(picks: &[Pick], k: usize) -> u16
+pub fn mover_at(picks: &[Pick], k: usize) -> u16
     ensures { result ≡ model.mover_at picks.now k }
 {
     match picks.get(k) {

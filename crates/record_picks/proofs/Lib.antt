@@ -1,5 +1,5 @@
 mod Lists
 mod Silents
 mod Takes
-mod Traces
-mod Ways
+pub mod Traces
+pub mod Ways

@@ -31,8 +31,8 @@ use run_trace::{TakeTraced, Traced, Tracer, What};
 use std::alloc::{AllocError, Global};
 use templates::{Code, Plan};
 
-/// The picks of the run on one memory that a record's run stands for, by the law of rewriting, where
-/// the record tells of a whole run of rewritten code that the plan says.
+/// The picks of the run on one memory that a record's run stands for, by the law of rewriting,
+/// where the record tells of a whole run of rewritten code that the plan says.
 ///
 /// Fails with the first event that can't be made as it is told of, as `replay` does.
 pub fn picks_of_record(
@@ -128,7 +128,7 @@ fn push_if(picks: &mut Vec<Pick>, pick: Option<Pick>) -> Result<(), AllocError>
 }
 
 /// The pick that an event stands for, if it stands for one.
-fn pick_of(event: &Traced) -> Option<Pick>
+pub fn pick_of(event: &Traced) -> Option<Pick>
     ensures { option_to_list (option_map model_pick result) ≡ picks_seen (traced_of event.now) }
 {
     match &event.what {

@@ -1,5 +1,5 @@
 -- One word of a stretch after another.
-use Rattle.std.proofs.Common.{◌+◌, ◌++◌, Some, ap, ◌∙◌, subst, arith}
+use Rattle.std.proofs.Common.{◌+◌, ◌++◌, ap, ◌∙◌, subst, arith}
 use Rattle.std.specs.Prelude.{map}
 use Rattle.one_memory.specs.Shown.{pick_of}
 use Rattle.run_trace.specs.Tracing.{HasTracedIfSilent}

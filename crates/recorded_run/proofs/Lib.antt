@@ -1,0 +1,6 @@
+mod Digits
+mod Lines
+mod Walking
+mod Along
+mod Silent
+mod Showing
