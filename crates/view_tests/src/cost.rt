@@ -82,14 +82,14 @@ const NAMED_CALLS: [Row; 1] = [("cost IN", 0, &NAMED, "")];
 /// Of a run, the steps of the original stand in the first column.
 const HEAD_OF_RUN: &str = "   steps   words per 100     own    flag   state   store";
 
-/// Of the run of `trace` by two nodes, whose stamps count the words of a node, but for the messages
-/// that it takes. Node 0 executes six words: lui, the branch, the word that leads away from it, addi,
-/// addi and ecall; of these all but the one that leads away commit a step. Node 1 doesn't branch
-/// away: it executes lui, the branch, the seven words of the load, of which the last commits, addi,
-/// addi and ecall. So `read`, which has the branch and the load, has 2 words of node 0 and 8 of
-/// node 1, of which 4 are the original's own, 5 check the load and one leads away, for 1 and 2 steps.
-/// `main` has 4 words and 4 steps of each. In all these are 18 words for 11 steps: node 0's journal
-/// tells of 6 words, and node 1's of 8 and 4.
+/// Of the run of `trace` by two nodes, whose stamps count the words of a node, but for the
+/// messages that it takes. Node 0 executes six words: lui, the branch, the word that leads away
+/// from it, addi, addi and ecall; of these all but the one that leads away commit a step. Node 1
+/// doesn't branch away: it executes lui, the branch, the seven words of the load, of which the
+/// last commits, addi, addi and ecall. So `read`, which has the branch and the load, has 2 words
+/// of node 0 and 8 of node 1, of which 4 are the original's own, 5 check the load and one leads
+/// away, for 1 and 2 steps. `main` has 4 words and 4 steps of each. In all these are 18 words for
+/// 11 steps: node 0's journal tells of 6 words, and node 1's of 8 and 4.
 const RUN: [&str; 9] = [
     HEAD_OF_RUN,
     HEAD_OF_OTHERS,

@@ -28,6 +28,48 @@ const REGISTERS: &str = "+$0000000000000000f0ffff7f\
 /// The second processor has loaded a 7 at the end, which stands in memory.
 const SEVEN: &str = "+$07000000#87";
 
+/// Of `where` at the beginning: `after 0 of 11 picks`, and `the nodes are at their start`.
+const AT_START: &str =
+    "+$61667465722030206f66203131207069636b730a746865206e6f646573206172652061742074686569\
+    722073746172740a#0d";
+
+/// Of `miss` the line of the trace with stamp 8.
+const MISS: &str =
+    "+$38206e6f646520313a203030303130303038206c772078362c2030287835293b2077616e7473203078\
+    3030303230303030206f6620626c6f636b203020746f20726561642c20776869636820697320696e7661\
+    6c69643b2073656e64732052656164206f6620626c6f636b203020746f20300a#bc";
+
+/// Of `where` behind it: five steps of processor 0 and two of processor 1 come before.
+const BEHIND: &str =
+    "+$61667465722037206f66203131207069636b732c20746865206c617374206f662070726f636573736f\
+    7220300a746865206e6f6465732061726520626568696e6420746865206576656e74206f66206e6f6465\
+    20312077697468207374616d7020380a#96";
+
+/// Of `node 1` there: it waits, and wants block 0 to read, which is pending.
+const WAITS: &str =
+    "+$6e6f6465203120686173207374616d7020382c20616e642077616974730a77616e747320626c6f636b\
+    203020746f20726561642c2077686963682069732070656e64696e673b2061636b7320300a#eb";
+
+/// Of `block 0x2003f` there: home and owner are node 0, where it is exclusive.
+const BLOCK: &str =
+    "+$626c6f636b20302068617320686f6d6520302c206f776e657220300a6e6f646520303a206578636c75\
+    736976652c2061207368617265720a6e6f646520313a2070656e64696e670a#34";
+
+/// Of another `miss`: none comes, and the run is at its end.
+const NO_MISS: &str =
+    "+$6e6f206d69737320636f6d65733a207468652072756e2069732061742069747320656e640a#d0";
+
+/// Of `where` there: the last pick is the call of processor 1 with stamp 15.
+const AT_END: &str =
+    "+$6166746572203131206f66203131207069636b732c20746865206c617374206f662070726f63657373\
+    6f7220310a746865206e6f6465732061726520626568696e6420746865206576656e74206f66206e6f64\
+    6520312077697468207374616d702031350a#56";
+
+/// Of `back-to-write 0x20000`: nothing writes there.
+const UNWRITTEN: &str =
+    "+$6e6f7468696e672077726f74652069743a207468652072756e20697320617420697473207374617274\
+    0a#92";
+
 const OK: &str = "+$OK#9a";
 
 /// The words of a call, the bytes that come from the debugger, the numbers of the reads that fail,
@@ -42,7 +84,7 @@ type Session = (
 );
 
 /// B is the record with one entry changed, whose message isn't there yet.
-const SESSIONS: [Session; 14] = [
+const SESSIONS: [Session; 16] = [
     ("gdb IN R", "", &[], 0, &[], ""),
     ("gdb IN R", "$?#3f", &[], 0, &[FIRST], ""),
     ("gdb IN R", "$?#3f+$D#44$?#3f", &[], 0, &[FIRST, OK], ""),
@@ -107,6 +149,25 @@ const SESSIONS: [Session; 14] = [
         4,
         &[],
         "shasta: code refused 50 NoPlan\n",
+    ),
+    // the nodes are shown by commands, up to the miss and behind it
+    (
+        "gdb IN R",
+        "$qRcmd,7768657265#3e$qRcmd,6d697373#00$qRcmd,7768657265#3e$qRcmd,6e6f6465203\
+            1#f5$qRcmd,626c6f636b2030783230303366#f2",
+        &[],
+        0,
+        &[AT_START, MISS, BEHIND, WAITS, BLOCK],
+        "",
+    ),
+    (
+        "gdb IN R",
+        "$qRcmd,6d697373#00$qRcmd,6d697373#00$qRcmd,7768657265#3e$qRcmd,6261636b2d746\
+            f2d77726974652030783230303030#67$qRcmd,7768657265#3e",
+        &[],
+        0,
+        &[MISS, NO_MISS, AT_END, UNWRITTEN, AT_START],
+        "",
     ),
     ("gdb IN R --node 1", "$?#3f", &[1], 2, &[], USAGE),
 ];

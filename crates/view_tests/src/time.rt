@@ -12,7 +12,8 @@ use test_calls::files::executable;
 /// 26.
 ///
 /// Node 1 executes lui, bne, addi, blt, lw, addi, bne and miss.r, from 0 to 8, and waits to read:
-/// its Read is at the home, node 0, at 108. It takes node 0's Bye at 106, to 126, and has waited 98.
+/// its Read is at the home, node 0, at 108. It takes node 0's Bye at 106, to 126, and has waited
+/// 98.
 ///
 /// Node 0 takes the Read at 108, to 128, and sends a FwdRead to itself; takes that, to 148, and
 /// sends the Data, which brings one line and is there at 258.

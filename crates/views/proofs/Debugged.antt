@@ -17,13 +17,14 @@ use Rattle.prepared_run.specs.Ready.{work_for}
 use Rattle.prepared_run.specs.Replays.{IsReplayRefusal, IsWorkOf}
 use Rattle.prepared_run.specs.declared.ready.Prepared.{Prepared}
 use Rattle.run_record.specs.declared.Record.{Record as Kept}
-use Rattle.one_memory.specs.Shown.{pick_of}
-use Rattle.one_memory.specs.declared.Pick.{Pick}
-use Rattle.record_picks.specs.Picks.{ArePicksOf, IsInterleaved as OfWork}
-use Rattle.time_machine.specs.Stand.{Run, Stand, IsInterleaved}
-use Rattle.debugged_run.specs.Commands.{Tells}
-use Rattle.debugged_run.specs.Motions.{Moves}
-use Rattle.debugged_run.specs.Seen.{seen_from}
+use Rattle.jump_map.specs.Image.{Cell}
+use Rattle.templates.specs.declared.plans.PlanEntry.{PlanEntry}
+use Rattle.recorded_run.specs.debugged_run.one_memory.Shown.{pick_of}
+use Rattle.recorded_run.specs.debugged_run.one_memory.declared.Pick.{Pick}
+use Rattle.recorded_run.specs.record_picks.Picks.{ArePicksOf, IsInterleaved as OfWork}
+use Rattle.recorded_run.specs.debugged_run.time_machine.Stand.{Run, IsInterleaved}
+use Rattle.recorded_run.specs.Shown.{Recorded, shown_from}
+use Rattle.recorded_run.specs.Tells.{Moves, Tells}
 use Rattle.gdb_server.specs.Ends.{Streams}
 use Rattle.gdb_server.specs.Transcripts.{Standing, opening, Serves}
 use Rattle.views.specs.Answers.{IsRefusalStatus}
@@ -87,8 +88,8 @@ same_gdb run other memory most is = ap (λ v. run_in v run) is
 
 -- 2. What was put is a text of the view
 
-transcript : (inputs : Inputs) (first : Stand) (heard put : List ℕ) (standing : Standing Stand)
-    → IsShown inputs first → Serves seen_from Moves Tells (opening first) heard put standing
+transcript : (inputs : Inputs) (first : Recorded) (heard put : List ℕ) (standing : Standing Recorded)
+    → IsShown inputs first → Serves shown_from Moves Tells (opening first) heard put standing
     → IsSessionText inputs put
 transcript inputs first heard put standing shown serves = record {
   first = first;
@@ -275,23 +276,37 @@ pub with_nodes : (prepared : Prepared) (nodes : ℕ) (picks : List Pick) → nod
 with_nodes prepared nodes picks nodes_are h =
     subst (λ n. IsInterleaved (run_of prepared n picks)) (sym nodes_are) h
 
-pub is_shown : (inputs : Inputs) (prepared : Prepared) (kept : Kept) (nodes : ℕ) (picks : List Pick) (s : Stand)
+-- what is shown first, by this image and this plan
+abbrev pub first_of : Prepared → Kept → (nodes : ℕ) → List Pick → List Cell → List PlanEntry → Recorded
+first_of prepared kept nodes picks image plan = record {
+  stand = record { run = run_of prepared nodes picks; position = 0 };
+  image = image;
+  budget = prepared.budget;
+  plan = plan;
+  kept = kept;
+  behind = None;
+}
+
+pub is_shown : (inputs : Inputs) (prepared : Prepared) (kept : Kept) (nodes : ℕ) (picks : List Pick)
+    (image : List Cell) (plan : List PlanEntry) (s : Recorded)
     → IsWorkOf inputs kept prepared.program prepared.rewritten.plan (work_for prepared)
     → nodes ≡ prepared.layout.nodes
     → ArePicksOf (work_for prepared) prepared.rewritten.plan kept (map pick_of picks)
     → IsInterleaved (run_of prepared nodes picks)
-    → s ≡ record { run = run_of prepared nodes picks; position = 0 } → IsShown inputs s
-is_shown inputs prepared kept nodes picks s asked nodes_are are interleaved stands =
-    subst (IsShown inputs) (sym stands) (record {
-      kept = kept;
-      plan = prepared.rewritten.plan;
-      work = work_for prepared;
+    → image ≡ prepared.rewritten.image → plan ≡ prepared.rewritten.plan
+    → s ≡ first_of prepared kept nodes picks image plan → IsShown inputs s
+is_shown inputs prepared kept nodes picks image plan s asked nodes_are are interleaved image_is plan_is stands =
+    let of_image : s ≡ first_of prepared kept nodes picks prepared.rewritten.image plan =
+    subst (λ i. s ≡ first_of prepared kept nodes picks i plan) image_is stands in
+    let of_plan : s ≡ first_of prepared kept nodes picks prepared.rewritten.image prepared.rewritten.plan =
+    subst (λ p. s ≡ first_of prepared kept nodes picks prepared.rewritten.image p) plan_is of_image in
+    subst (IsShown inputs) (sym of_plan) (record {
       asked = asked;
-      layout = refl;
       nodes = nodes_are;
       picks = are;
       interleaved = interleaved;
       start = refl;
+      fewest = refl;
     })
 
 -- what is refused before the session is of a recorded run

@@ -40,7 +40,8 @@ pub(crate) fn show_cost<F: Files, O: Sink>(
 ) -> Result<(), Failure>
     ensures ok { OnOk result (IsSuccess (Cost (code_of arguments.now) (file_name record_file.entry))
         (F.state files.old) (O.state out.old) (O.state out.new)) }
-    ensures failure { IfErr result (IsFailure (Cost (code_of arguments.now) (file_name record_file.entry))
+    ensures failure { IfErr result
+        (IsFailure (Cost (code_of arguments.now) (file_name record_file.entry))
         (F.state files.old) (F.state files.new) (O.state out.old) (O.state out.new)) }
     ensures longer { (name content : List ℕ)
         → Contains (reads (Cost (code_of arguments.now) (file_name record_file.entry))) name

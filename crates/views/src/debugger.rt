@@ -4,8 +4,9 @@ ghost use Rattle.std.specs.Prelude.{◌≡◌, ℕ, List, IfErr, IfOk, OnOk, map
 ghost use Rattle.jump_map.specs.Image.{IsRewriting};
 ghost use Rattle.rewriting_law.specs.Bounds.{RunsRewritten};
 ghost use Rattle.run_record.specs.Record.{IsRecord};
-ghost use Rattle.one_memory.specs.Shown.{pick_of};
-ghost use Rattle.record_picks.specs.Picks.{ArePicksOf, IsInterleaved};
+ghost use Rattle.templates.specs.Code.{HasCode};
+ghost use Rattle.recorded_run.specs.debugged_run.one_memory.Shown.{pick_of};
+ghost use Rattle.recorded_run.specs.record_picks.Picks.{ArePicksOf, IsInterleaved};
 ghost use Rattle.judged_files.specs.Given.{bytes_of};
 ghost use Rattle.judged_files.specs.Inputs.{Inputs as Given};
 ghost use Rattle.prepared_run.specs.Ready.{work_for};
@@ -20,22 +21,24 @@ use crate::recorded::refusal_of;
 use block_layout::Layout;
 use byte_source::Source;
 use command_line::{Megabytes, RecordedFiles};
-use debugged_run::DebuggedRun;
+use dsm_core::Work;
 use dsm_io::{Files, Sink};
 use flow_graph::Graph;
 use gdb_server::{ServeError, serve};
 use judged_files::input::{Inputs, elf_of};
 use judged_files::refusal::Subject;
-use one_memory::Pick;
 use prepared_run::{Prepared, prepare_replay};
-use record_picks::picks_of_record;
+use recorded_run::RecordedRun;
+use recorded_run::debugged_run::time_machine::one_memory::Pick;
+use recorded_run::record_picks::picks_of_record;
 use run_limits::NodeCount;
 use run_record::Record;
 use std::alloc::{AllocError, Global};
+use templates::Code;
 use text_output::Failure;
 
-/// Serves a debugger at the run on one memory that a recorded run stands for. Checkpoints of it take
-/// at most so much memory.
+/// Serves a debugger at the run on one memory that a recorded run stands for, with the nodes beside
+/// it. Checkpoints take at most so much memory.
 pub(crate) fn show_run<F: Files, S: Source, O: Sink>(
     alloc: Global,
     run: &RecordedFiles<'_>,
@@ -98,15 +101,19 @@ fn serve_prepared<S: Source, O: Sink>(
         → IfErr result (FailsAsSession inputs
         (streams (S.state source.old) (S.state source.new) (O.state out.old) (O.state out.new))) }
 {
-    let picks = picks_of(alloc, prepared, kept)?;
-    let mut run = DebuggedRun::new(
-        alloc,
-        &prepared.program,
-        &prepared.layout,
-        nodes_of(&prepared.layout),
-        memory.number(),
-        picks,
-    )?;
+    let graph = Graph::of(alloc, &prepared.program)?;
+    let code = graph.code();
+    let picks = picks_of(alloc, prepared, code, kept)?;
+    let work = Work {
+        program: &prepared.program,
+        image: prepared.rewritten.image(),
+        layout: &prepared.layout,
+        budget: prepared.budget,
+    };
+    let plan = prepared.rewritten.plan();
+    let nodes = nodes_of(&prepared.layout);
+    let megabytes = memory.number();
+    let mut run = RecordedRun::new(alloc, &work, plan, code, kept, nodes, megabytes, picks)?;
     match serve(alloc, &mut run, source, out) {
         Ok(_) => Ok(()),
         Err(ServeError::Input) => Err(unread(alloc)),
@@ -117,10 +124,16 @@ fn serve_prepared<S: Source, O: Sink>(
 
 /// The picks of the run on one memory that the run of a record stands for. A run whose events can't
 /// be made as they are told of is refused.
-fn picks_of(alloc: Global, prepared: &Prepared<'_>, kept: &Record) -> Result<Vec<Pick>, Failure>
+fn picks_of(
+    alloc: Global,
+    prepared: &Prepared<'_>,
+    code: &Code,
+    kept: &Record,
+) -> Result<Vec<Pick>, Failure>
     requires rewritten { RunsRewritten (work_for prepared.now) }
     requires plan { IsRewriting (work_for prepared.now).program prepared.now.rewritten.plan
         (work_for prepared.now).image }
+    requires code { HasCode (work_for prepared.now).program code.now }
     requires record { IsRecord kept.now }
     requires nodes { prepared.now.layout.nodes ≡ kept.now.nodes }
     ensures picks { IfOk result (λ picks. ArePicksOf (work_for prepared.now)
@@ -130,9 +143,8 @@ fn picks_of(alloc: Global, prepared: &Prepared<'_>, kept: &Record) -> Result<Vec
     ensures refused { IfErr result
         (IsRecordRefusal (IsBrokenRun (work_for prepared.now) kept.now)) }
 {
-    let graph = Graph::of(alloc, &prepared.program)?;
     let plan = prepared.rewritten.plan();
-    match picks_of_record(alloc, &prepared.work(), plan, graph.code(), kept) {
+    match picks_of_record(alloc, &prepared.work(), plan, code, kept) {
         Ok(picks) => Ok(picks),
         Err(refused) => Err(refusal_of(alloc, refused)),
     }

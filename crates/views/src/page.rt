@@ -20,7 +20,7 @@ ghost use Rattle.views.specs.Failures.{IsPageFailure, IsPageWritten, TellsWhole}
 ghost use Rattle.views.specs.Page.{HasAddedOn, IsPageText, drawn_text};
 
 use crate::input::{read_inputs, run_files};
-use crate::recorded::{RecordedRun, judged_run, next_event_to};
+use crate::recorded::{JudgedRun, judged_run, next_event_to};
 use crate::trace::Selection;
 use block_view::event_text::{EventFilter, is_passed_shown, is_shown, shown_law};
 use command_line::RecordedFiles;
@@ -70,7 +70,7 @@ fn page_of(alloc: Global, inputs: &Inputs<'_>, selection: Selection) -> Result<V
 /// The page of the events of a judged run that are asked for.
 fn page_of_run(
     alloc: Global,
-    run: &RecordedRun<'_>,
+    run: &JudgedRun<'_>,
     selection: Selection,
 ) -> Result<Vec<u8>, AllocError>
     requires rewritten { RunsRewritten (work_for run.now.prepared) }

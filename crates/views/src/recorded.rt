@@ -32,7 +32,7 @@ use text_output::Failure;
 
 /// A recorded run that was judged.
 #[derive(Drop)]
-pub(crate) struct RecordedRun<'a> {
+pub(crate) struct JudgedRun<'a> {
     /// What it is a run of.
     pub(crate) prepared: Prepared<'a>,
     /// Its record, which tells of a whole run.
@@ -45,7 +45,7 @@ pub(crate) fn judged_run<'a>(
     alloc: Global,
     elf: &'a Elf<'_>,
     inputs: &Inputs<'_>,
-) -> Result<RecordedRun<'a>, Failure>
+) -> Result<JudgedRun<'a>, Failure>
     requires reads { ReadsAs (bytes_of inputs.now).executable elf.now }
     ensures rewritten { IfOk result (λ r. RunsRewritten (work_for r.prepared)) }
     ensures asked { IfOk result (λ r. IsWorkOf (bytes_of inputs.now) r.kept r.prepared.program
@@ -55,7 +55,7 @@ pub(crate) fn judged_run<'a>(
 {
     let (prepared, kept) = prepare_replay(alloc, elf, inputs)?;
     judge_events(alloc, &prepared, &kept)?;
-    Ok(RecordedRun { prepared, kept })
+    Ok(JudgedRun { prepared, kept })
 }
 
 /// Makes the run that a record tells of, whose events are refused otherwise.

@@ -33,8 +33,8 @@ use std::alloc::Global;
 use text_output::{Failure, put, tell, tell_out_of_memory};
 
 /// Shows what the words ask for, or writes it into a file, and answers the status: 0 where the
-/// whole text was put, the file written or a debugger served; 2 for a faulty command line; 3 where a
-/// file, the output or the source failed; 4 where the executable or a verified file is refused; 5
+/// whole text was put, the file written or a debugger served; 2 for a faulty command line; 3 where
+/// a file, the output or the source failed; 4 where the executable or a verified file is refused; 5
 /// where it was out of memory; 6 where the layout, or that of a record, is refused; 7 where the
 /// record is.
 pub fn shasta_view<F: Files, S: Source, O: Sink, E: Sink>(
@@ -67,8 +67,8 @@ pub fn shasta_view<F: Files, S: Source, O: Sink, E: Sink>(
 
     // Of `gdb` the bytes put are a transcript of those that came from the source, over the run on
     // one memory whose picks the run of the record stands for. With another status they are one up
-    // to where the source or the output failed or memory was wanted, or nothing came and nothing was
-    // put. No other view reads the source, nor does `gdb` where it refuses.
+    // to where the source or the output failed or memory was wanted, or nothing came and nothing
+    // was put. No other view reads the source, nor does `gdb` where it refuses.
     ensures gdb { (run : RecordedFiles) (memory : ℕ) (contents : List ℕ → List ℕ)
         → AsksView words.now (Gdb run memory)
         → AreTold (Gdb run memory) (F.state files.old) contents → result ≡ 0

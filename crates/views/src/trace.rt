@@ -20,7 +20,7 @@ ghost use Rattle.prepared_run.specs.Ready.{work_for};
 ghost use Rattle.views.specs.Failures.{FailsAsRun, IsTextOfTrace, TellsWhole};
 ghost use Rattle.views.specs.Trace.{HasPushedOn, options_about, options_at, selected_text};
 
-use crate::recorded::{RecordedRun, judged_run, next_event_to};
+use crate::recorded::{JudgedRun, judged_run, next_event_to};
 use block_layout::{Block, Layout};
 use block_view::event_text::{
     EventFilter, is_passed_shown, is_shown, push_event, push_head, push_passed, shown_law,
@@ -97,7 +97,7 @@ pub(crate) fn put_trace<O: Sink>(
 /// Puts the lines of the events of a judged run that are asked for.
 fn put_selected<O: Sink>(
     alloc: Global,
-    run: &RecordedRun<'_>,
+    run: &JudgedRun<'_>,
     selection: Selection,
     out: &mut O,
 ) -> Result<(), Failure>
@@ -135,7 +135,7 @@ fn put_head<O: Sink>(alloc: Global, out: &mut O) -> Result<(), Failure>
 /// Puts the lines of the events of a judged run that are shown.
 fn put_run<O: Sink>(
     alloc: Global,
-    run: &RecordedRun<'_>,
+    run: &JudgedRun<'_>,
     options: &EventFilter,
     out: &mut O,
 ) -> Result<(), Failure>

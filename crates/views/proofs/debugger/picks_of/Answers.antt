@@ -3,8 +3,8 @@ use Rattle.prepared_run.specs.Ready.{work_for}
 use Rattle.views.proofs.Summed.{IsRefusedAt}
 use Rattle.views.proofs.debugger.picks_of.Goals as goal
 
-pub returns-clause-refused : goal.returns-clause-refused
-returns-clause-refused c =
+pub returns-in-Err-clause-refused : goal.returns-in-Err-clause-refused
+returns-in-Err-clause-refused c =
     let kept = c.args.kept.now in
     let is = c.in-Err.is in
     c.refusal_of.ensures (work_for c.args.prepared.now) kept (λ rule node entry e.
