@@ -3,9 +3,9 @@
 
     cc -O2 -o rod rod.c
     programs/build
-    ./programs.py PROGRAM [ROUNDS]
+    ./programs.py PROGRAM [ROUNDS] [FOLDER]
 
-PROGRAM is the built program (crates/shasta/out/shasta). A row has how many instructions the original executes, how many
+PROGRAM is the built program (crates/shasta/out/shasta), and FOLDER has the executables (programs/). A row has how many instructions the original executes, how many
 rewritten words stand for one of them, by default and with `--no-batch`, the rod's time for an instruction in
 nanoseconds, and `run`'s time for an original instruction as a multiple of the rod's, both ways. Times are of the
 processor, with the start taken off; rounds alternate, and the best of so many (5) is given."""
@@ -14,6 +14,7 @@ import pathlib, re, resource, subprocess, sys
 here = pathlib.Path(__file__).resolve().parent
 program = sys.argv[1]
 ROUNDS = int(sys.argv[2]) if len(sys.argv) > 2 else 5
+folder = pathlib.Path(sys.argv[3]) if len(sys.argv) > 3 else here / "programs"
 BUDGET = str(2**32 - 1)
 NAMES = ("sort", "matrix", "pack", "strings", "crc", "structs")
 
@@ -37,7 +38,7 @@ def words_of(file, option, count):
 
 print(f"{'':9}{'instructions':>13}{'words':>7}{'no batch':>9}{'rod ns':>8}{'run/rod':>9}{'no batch':>9}")
 for name in NAMES:
-    file = str(here / "programs" / f"{name}.elf")
+    file = str(folder / f"{name}.elf")
     said = called([str(here / "rod"), file])[1]
     wanted, count = said.splitlines()[0], int(re.search(r"^(\d+) instructions", said, re.M).group(1))
     best = [1e9, 1e9, 1e9]
