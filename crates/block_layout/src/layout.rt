@@ -6,12 +6,12 @@ ghost use Rattle.block_layout.specs.Layout.{IsValid, has_line};
 ghost use Rattle.block_layout.specs.Index.{IsLastBegun, IsPieceOf};
 
 use crate::index::{BlockRun, Index};
-use crate::ranges::{Lines, Ranges};
+use crate::ranges::Ranges;
 use std::alloc::{AllocError, Global};
 use std::marker::Model;
 
 /// The bytes of a line.
-pub(crate) const LINE_BYTES: u32 = 64;
+pub const LINE_BYTES: u32 = 64;
 
 /// The bytes of a page, by which homes go round.
 const PAGE_BYTES: u32 = 4096;
@@ -91,13 +91,6 @@ impl Layout {
         ensures valid { IsValid self.now }
     {
         self.nodes
-    }
-
-    /// The shared lines.
-    pub fn shared(&self) -> &Ranges
-        ensures { result.now ≡ self.now.shared }
-    {
-        &self.shared
     }
 
     /// The named ranges, in the order of the text.

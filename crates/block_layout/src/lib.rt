@@ -14,7 +14,7 @@ mod refused;
 mod text;
 
 pub use law::{layout_law, range_list_law, text_law};
-pub use layout::{Block, BlockRange, Layout};
+pub use layout::{Block, BlockRange, LINE_BYTES, Layout};
 pub use ranges::{Lines, Ranges};
 pub use read::{default_layout, layout_with, read_layout};
 pub use refused::{LayoutRefused, LayoutRule};

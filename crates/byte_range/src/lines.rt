@@ -6,12 +6,10 @@ ghost use Rattle.rv32_decode.specs.Widths.{is_aligned};
 ghost use Rattle.byte_range.specs.Memory.{raw, stored};
 
 use crate::range::ByteRange;
+use block_layout::LINE_BYTES;
 use rv32_decode::Width;
 use std::alloc::{AllocError, Global};
 use std::marker::Model;
-
-/// The bytes of a line.
-const LINE_BYTES: u32 = 64;
 
 /// Lines of 64 bytes, one after another: the number of the first, and how many there are.
 #[derive(Clone, Copy, Debug, PartialEq, Eq)]

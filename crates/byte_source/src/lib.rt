@@ -1,8 +1,8 @@
 #![tactic(auto)]
 //! Where the bytes of an input come from, one after another.
 //!
-//! The clauses of [`Source`] speak of the bytes that are still to come and of a count of faults. The
-//! standard input tells no bytes, since no contract can know them.
+//! The clauses of [`Source`] speak of the bytes that are still to come and of a count of faults.
+//! The standard input tells no bytes, since no contract can know them.
 
 ghost use Rattle.std.specs.Prelude.{◌≡◌, ◌≤◌, ◌∷◌, [], IfNone, IfOk, IfSome, OnErr, OnOk};
 ghost use Rattle.dsm_io.specs.Causes.{Rose};

@@ -4,8 +4,8 @@ ghost use Rattle.std.specs.Prelude.{◌≡◌, ◌↔◌, [], ℕ, List, IsTrue,
 ghost use Rattle.std.specs.Prelude.{false};
 ghost use Rattle.clap.specs.Words.{app_of, rule_of};
 ghost use Rattle.command_line.specs.Asks.{Argument, IsPlain};
-ghost use Rattle.command_line.specs.Reading.{IsCut, Reads, app_for, rule_for, given_by, id_of, IsGivenAs};
-ghost use Rattle.command_line.specs.Reading.{AreReadable, AreThree, IsLong};
+ghost use Rattle.command_line.specs.Reading.{IsCut, IsGivenAs, Reads, app_for, given_by};
+ghost use Rattle.command_line.specs.Reading.{AreReadable, AreThree, IsLong, id_of, rule_for};
 
 use crate::table::{Role, Setting};
 use clap::error::ErrorKind;

@@ -176,7 +176,7 @@ fn parts_of<'a>(command: &Command<'a>) -> (&'a str, u8, u32, u64) {
     }
 }
 
-/// The same of the command on the file `a` that words ask for.
+/// The parts of the command on the file `a` that words ask for.
 fn asked_of(alloc: Global, words: &[Text]) -> Result<Asked, AllocError> {
     match command_of(alloc, words) {
         Ok(Some(command)) => match parts_of(&command) {

@@ -184,7 +184,7 @@ fn try_each(
     Ok(())
 }
 
-/// The same where the file is to be listed.
+/// Has a file that is to be listed break each rule in its turn.
 pub fn try_rules(
     rt: &(impl Threads + Wait + Sync + AllocGlobal),
     whole: &[u8],

@@ -81,7 +81,7 @@ fn counts_by_stretches(rt: HostRuntime) -> Result<(), Fail> {
     Ok(())
 }
 
-/// The same where no node is told that something was sent to it: each finds it all the same, later.
+/// No node is told that something was sent to it: each finds it all the same, later.
 #[test]
 fn counts_untold(rt: HostRuntime) -> Result<(), Fail> {
     let file = executable(rt.alloc(), COUNTS, b"", 128)?;

@@ -109,7 +109,7 @@ fn watch_by(kind: WatchKind, point: Point) -> Watch
     }
 }
 
-/// The same stop, of one processor alone.
+/// A stop, of one processor alone.
 fn alone(p: u8, stop: StopPoint) -> StopPoint
     ensures { result ≡ model.alone p stop }
 {

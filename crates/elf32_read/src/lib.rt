@@ -14,6 +14,7 @@ mod limits;
 mod refused;
 mod rules;
 
+pub use contents::NO_BITS;
 pub use refused::{ElfRefused, FileRule};
 use std::alloc::Global;
 use std::marker::Model;

@@ -5,13 +5,10 @@ ghost use Rattle.std.specs.List.{list_all, list_any};
 ghost use Rattle.elf32_read.specs.Segments.{section_of};
 ghost use Rattle.elf32_write.specs.Writable as model;
 
-use elf32_read::{Elf, Section};
+use elf32_read::{Elf, NO_BITS, Section};
 
 /// The longest name in bytes.
 const NAME_LIMIT: usize = 64;
-
-/// The type of a section without bytes in the file.
-const NO_BITS: u32 = 8;
 
 /// Whether an executable can be written: it is in the limits of `Elf::make`, and each section has
 /// no memory, a type other than 8, as many bytes as its size says, and a name of at most 64 bytes

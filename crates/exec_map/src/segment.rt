@@ -8,7 +8,7 @@ ghost use Rattle.exec_map.specs.Refusals as rules;
 
 use crate::Class;
 use byte_range::WINDOW_START;
-use elf32_read::{Section, Segment};
+use elf32_read::{NO_BITS, Section, Segment};
 
 /// PF_X of a segment's permissions.
 const EXECUTABLE: u32 = 1;
@@ -116,9 +116,6 @@ const ALLOCATED: u32 = 2;
 
 /// SHF_EXECINSTR of a section's attributes.
 const INSTRUCTIONS: u32 = 4;
-
-/// SHT_NOBITS: the type of a section of which the file has no bytes.
-const NO_BITS: u32 = 8;
 
 /// Whether the section is one of code.
 pub fn is_code_section(s: &Section<'_>) -> bool

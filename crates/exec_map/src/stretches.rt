@@ -51,7 +51,7 @@ pub fn next(stretches: &[NumberRange], from: u32) -> Option<u32>
     Some(from.max(r.first))
 }
 
-/// The same numbers in the least number of stretches.
+/// The numbers of some ranges, in the least number of ranges.
 pub fn merged(alloc: Global, stretches: &[NumberRange]) -> Result<Vec<NumberRange>, AllocError>
     requires some { All IsSome stretches.now }
     requires sorted { IsNonDecreasingBy (λ r. r.first) stretches.now }

@@ -74,7 +74,8 @@ impl Copy32 {
         }
     }
 
-    /// The same, where it is known at which place of the bytes those of the address begin.
+    /// The little-endian number that the bytes from an address on make, where it is known at which
+    /// place of the copy they begin.
     #[inline(always)]
     pub fn load_at(&self, address: u32, at: u32, width: Width) -> u32
         requires shared { is_shared self.now.layout (address / 64) ≡ true }
@@ -104,7 +105,8 @@ impl Copy32 {
         }
     }
 
-    /// The same, where it is known at which place of the bytes those of the address begin.
+    /// Puts the low bits of a value into the bytes from an address on, little-endian, where it is
+    /// known at which place of the copy they begin.
     #[inline(always)]
     pub fn store_at(&mut self, address: u32, at: u32, width: Width, value: u32)
         requires shared { is_shared self.old.layout (address / 64) ≡ true }

@@ -1,6 +1,7 @@
 //! What stands behind the word of a request.
 
-ghost use Rattle.std.specs.Prelude.{◌≡◌, ◌<◌, ◌==◌, Some, None, IfSome, MatchOption, length, position};
+ghost use Rattle.std.specs.Prelude.{◌≡◌, ◌<◌, ◌==◌, Some, None, IfSome, MatchOption};
+ghost use Rattle.std.specs.Prelude.{length, position};
 ghost use Rattle.gdb_remote.specs.Requests as model;
 ghost use Rattle.gdb_remote.specs.declared.words.Keyword.TheVariants as word;
 

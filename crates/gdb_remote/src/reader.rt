@@ -1,8 +1,8 @@
 //! Packets, as they are read: byte by byte, so that it is all one in which pieces they come.
 
 ghost use Rattle.std.specs.Prelude.{◌≡◌, Some, IfOk, OnErr, OnOk};
-ghost use Rattle.gdb_remote.specs.Readings.{step, within_step, escaped_step, gained};
-ghost use Rattle.gdb_remote.specs.Readings.{judged, begun, new_reading, between_step, skipping_step};
+ghost use Rattle.gdb_remote.specs.Readings.{step, within_step, escaped_step, skipping_step, gained};
+ghost use Rattle.gdb_remote.specs.Readings.{judged, begun, new_reading, between_step};
 
 use crate::frame::{ESCAPE, ESCAPE_BIT};
 use crate::hexadecimal::byte_of;

@@ -2,7 +2,8 @@
 
 ghost use Rattle.std.specs.Fmt.{decimal};
 ghost use Rattle.std.specs.Prelude.{◌≡◌, ◌++◌, IfOk, OnOk};
-ghost use Rattle.gdb_session.specs.Sessions.{description, piece, register_line, register_lines_below};
+ghost use Rattle.gdb_session.specs.Sessions.{description, piece, register_line};
+ghost use Rattle.gdb_session.specs.Sessions.{register_lines_below};
 
 use crate::target::PC;
 use crate::telling::push_named;

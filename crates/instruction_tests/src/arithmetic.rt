@@ -29,64 +29,67 @@ fn operations(rt: HostRuntime) {
     }
 }
 
-/// Products at the ends of the ranges, as 64 bits by operation: the low half, and the high half of
-/// two signed numbers, of a signed and an unsigned one, and of two unsigned ones.
+/// Two factors at the ends of the ranges, and their product as 64 bits by operation: the low half,
+/// and the high half of two signed numbers, of a signed and an unsigned one, and of two unsigned
+/// ones.
+const PRODUCTS: [(u32, u32, u32, u32, u32, u32); 10] = [
+    (0, 0x8000_0000, 0, 0, 0, 0),
+    (1, 0xffff_ffff, 0xffff_ffff, 0xffff_ffff, 0, 0),
+    (0xffff_ffff, 1, 0xffff_ffff, 0xffff_ffff, 0xffff_ffff, 0),
+    (0xffff_ffff, 0xffff_ffff, 1, 0, 0xffff_ffff, 0xffff_fffe),
+    (
+        0x7fff_ffff,
+        0x7fff_ffff,
+        1,
+        0x3fff_ffff,
+        0x3fff_ffff,
+        0x3fff_ffff,
+    ),
+    (
+        0x8000_0000,
+        0x8000_0000,
+        0,
+        0x4000_0000,
+        0xc000_0000,
+        0x4000_0000,
+    ),
+    (
+        0x8000_0000,
+        0xffff_ffff,
+        0x8000_0000,
+        0,
+        0x8000_0000,
+        0x7fff_ffff,
+    ),
+    (
+        0xffff_ffff,
+        0x8000_0000,
+        0x8000_0000,
+        0,
+        0xffff_ffff,
+        0x7fff_ffff,
+    ),
+    (
+        0x8000_0000,
+        0x7fff_ffff,
+        0x8000_0000,
+        0xc000_0000,
+        0xc000_0000,
+        0x3fff_ffff,
+    ),
+    (
+        0x7fff_ffff,
+        0x8000_0000,
+        0x8000_0000,
+        0xc000_0000,
+        0x3fff_ffff,
+        0x3fff_ffff,
+    ),
+];
+
 #[test]
 fn products(rt: HostRuntime) {
-    for (a, b, mul, mulh, mulhsu, mulhu) in [
-        (0, 0x8000_0000, 0, 0, 0, 0),
-        (1, 0xffff_ffff, 0xffff_ffff, 0xffff_ffff, 0, 0),
-        (0xffff_ffff, 1, 0xffff_ffff, 0xffff_ffff, 0xffff_ffff, 0),
-        (0xffff_ffff, 0xffff_ffff, 1, 0, 0xffff_ffff, 0xffff_fffe),
-        (
-            0x7fff_ffff,
-            0x7fff_ffff,
-            1,
-            0x3fff_ffff,
-            0x3fff_ffff,
-            0x3fff_ffff,
-        ),
-        (
-            0x8000_0000,
-            0x8000_0000,
-            0,
-            0x4000_0000,
-            0xc000_0000,
-            0x4000_0000,
-        ),
-        (
-            0x8000_0000,
-            0xffff_ffff,
-            0x8000_0000,
-            0,
-            0x8000_0000,
-            0x7fff_ffff,
-        ),
-        (
-            0xffff_ffff,
-            0x8000_0000,
-            0x8000_0000,
-            0,
-            0xffff_ffff,
-            0x7fff_ffff,
-        ),
-        (
-            0x8000_0000,
-            0x7fff_ffff,
-            0x8000_0000,
-            0xc000_0000,
-            0xc000_0000,
-            0x3fff_ffff,
-        ),
-        (
-            0x7fff_ffff,
-            0x8000_0000,
-            0x8000_0000,
-            0xc000_0000,
-            0x3fff_ffff,
-            0x3fff_ffff,
-        ),
-    ] {
+    for (a, b, mul, mulh, mulhsu, mulhu) in PRODUCTS {
         assert_eq!(rt; alu(Op::Mul, a, b), mul, "MUL of {a} and {b}");
         assert_eq!(rt; alu(Op::Mulh, a, b), mulh, "MULH of {a} and {b}");
         assert_eq!(rt; alu(Op::Mulhsu, a, b), mulhsu, "MULHSU of {a} and {b}");

@@ -32,7 +32,7 @@ use llsc::Reservation;
 use node_machine::miss_handlers::Waits;
 use node_machine::node_words::{ExecState, StoreLog};
 use node_machine::{
-    NO_COUNTS, NodeCounts, PAGE_BYTES, ProtocolState, SharedState, Standing, Turn, WAITS,
+    BUFFER_BYTES, NO_COUNTS, NodeCounts, ProtocolState, SharedState, Standing, Turn, WAITS,
     ended_standing, first_local,
 };
 use rv32_step::Registers;
@@ -201,7 +201,7 @@ fn first_protocol(alloc: Global, layout: &Layout, me: u8) -> Result<ProtocolStat
 {
     let directory = Directory::new(alloc, layout, me, layout.nodes())?;
     let waits = Waits::new(alloc, layout)?;
-    let pool = Pool::new(alloc, WAITS, PAGE_BYTES)?;
+    let pool = Pool::new(alloc, WAITS, BUFFER_BYTES)?;
     Ok(ProtocolState {
         directory,
         waits,
@@ -223,7 +223,7 @@ fn first_places(alloc: Global, layout: &Layout, lanes: u8) -> Result<Vec<LanePro
         places.push_reserved(LaneProtocol {
             reservation: Reservation::new(),
             waits: Waits::new(alloc, layout)?,
-            pool: Pool::new(alloc, WAITS, PAGE_BYTES)?,
+            pool: Pool::new(alloc, WAITS, BUFFER_BYTES)?,
         });
     }
     Ok(places)

@@ -34,7 +34,7 @@ pub(crate) struct Link {
     kept: Vec<Packet<Wire>>,
     /// How many of the last draws for packet 0 were 0 in a row, at most 7.
     lost: u8,
-    /// The same for the acknowledgement.
+    /// How many of the last draws for the acknowledgement were 0 in a row, at most 7.
     silent: u8,
 }
 

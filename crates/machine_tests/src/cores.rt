@@ -32,7 +32,7 @@ addi x17, x0, 93
 ecall
 ";
 
-/// The same, where it stores the word in place of the load.
+/// A processor other than 0 stores a shared word; each exits with code 0.
 const STRANGER: &str = "lui x5, 0x20
 beq x10, x0, end
 sw x6, 0(x5)

@@ -1,5 +1,6 @@
 #![tactic(auto)]
-//! What the layers below the commands give for small programs: rewritten words, orders, steps.
+//! What the layers below the commands give: the protocol's messages; and, for small programs,
+//! rewritten words, orders, steps.
 
 #[cfg(test)]
 mod cores;
@@ -13,6 +14,8 @@ mod lossy;
 mod machines;
 #[cfg(test)]
 mod plans;
+#[cfg(test)]
+mod protocol;
 #[cfg(test)]
 mod rewritten_files;
 #[cfg(test)]

@@ -13,7 +13,8 @@ use std::test::Fail;
 use templates::{Plan, Scratch};
 use test_calls::files::executable;
 
-const LOOP: &str = "addi x5, x0, 3
+/// Counts down, stores, and then stays where it is.
+pub(crate) const LOOP: &str = "addi x5, x0, 3
 again:
 addi x5, x5, -1
 bne x5, x0, again

@@ -1,5 +1,6 @@
 //! Files that are taken for a rewriting by the plan that they say, and those that are refused.
 
+use crate::plans::LOOP;
 use elf32_read::read_elf;
 use exec_map::accept;
 use rewrite_verify::{VerifyRefused, verify};
@@ -7,16 +8,6 @@ use std::alloc::Global;
 use std::test::Fail;
 use test_calls::files::{executable, rewritten_file};
 use test_calls::samples::HI;
-
-const LOOP: &str = "addi x5, x0, 3
-again:
-addi x5, x5, -1
-bne x5, x0, again
-addi x6, x0, 1
-sw x6, 0(x7)
-stay:
-jal x0, stay
-";
 
 /// The look at the state of the store's line by x2 and x1 in place of x1 and x2: addi x2, x7, 0;
 /// lui x1, 0x80000; srli x2, x2, 6; add x2, x2, x1; lbu x2, 0(x2); beq x2, x0, +8

@@ -29,6 +29,12 @@ pub use llsc;
 use std::alloc::{AllocError, Global};
 use std::marker::Model;
 
+/// How many blocks a node may wait for, each with a buffer.
+pub const WAITS: u8 = 2;
+
+/// The bytes for which a buffer has room: those of the largest block.
+pub const BUFFER_BYTES: u32 = 4096;
+
 /// A wait, and the block that it is for.
 #[derive(Drop)]
 pub struct Waiting {

@@ -12,9 +12,10 @@ mod touch;
 mod undo_log;
 mod wanted;
 
-pub use node::{NO_COUNTS, Node, PAGE_BYTES, WAITS, ended_standing, standing_at};
+pub use node::{NO_COUNTS, Node, ended_standing, standing_at};
 pub use node_state::{Turn, WordTurn, add_byes, handle};
 pub use node_words;
+pub use node_words::miss_handlers::{BUFFER_BYTES, WAITS};
 pub use node_words::node_model::{Entry, NodeCounts, OutByte, Standing};
 pub use node_words::{exec_map, jump_map, miss_handlers};
 pub use opening::first_local;

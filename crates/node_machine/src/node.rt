@@ -36,7 +36,7 @@ use node_words::dsm_messages::{Sends, Wire};
 use node_words::exec_map::{End, Program};
 use node_words::home_directory::{Busy, Directory, Wait};
 use node_words::jump_map::{Image, ImageWord};
-use node_words::miss_handlers::Waits;
+use node_words::miss_handlers::{BUFFER_BYTES, WAITS, Waits};
 use node_words::node_model::{Entry, NodeCounts, OutByte, Standing};
 use node_words::runtime_words::RtWord;
 use node_words::rv32_step::Registers;
@@ -63,12 +63,6 @@ impl<'a> Model for Node<'a> {
 
     ghost invariant = { λ n. IsNode n.inner };
 }
-
-/// How many blocks a node may wait for, each with a buffer.
-pub const WAITS: u8 = 2;
-
-/// The bytes for which a buffer has room: those of the largest block.
-pub const PAGE_BYTES: u32 = 4096;
 
 impl<'a> Node<'a> {
     /// Node number `me` of a layout's at the start. It executes at most `budget` words.
@@ -110,7 +104,7 @@ impl<'a> Node<'a> {
         let protocol = ProtocolState {
             directory: Directory::new(alloc, layout, me, layout.nodes())?,
             waits: Waits::new(alloc, layout)?,
-            pool: Pool::new(alloc, WAITS, PAGE_BYTES)?,
+            pool: Pool::new(alloc, WAITS, BUFFER_BYTES)?,
         };
         Ok(Node {
             inner: NodeState {
@@ -327,7 +321,8 @@ impl<'a> Node<'a> {
         self.inner.exec(sends)
     }
 
-    /// The same, and what the word wants, by the path that serves every word.
+    /// Executes one word by the path that serves every word. Leaves what it sends, in order, and
+    /// says what the word wants.
     pub fn exec_with_wants(&mut self, sends: &mut Sends) -> WordTurn
         requires may { model.can_execute (node_of self.old).phase ≡ true }
         requires room { HasRoom self.old }

@@ -68,7 +68,8 @@ impl<'a> NodeState<'a> {
         self.serve_word(sends)
     }
 
-    /// The same by the path that serves every word, with what the word wants.
+    /// Executes one word by the path that serves every word. Leaves what it sends, in order, and
+    /// says what the word wants.
     pub fn exec_with_wants(&mut self, sends: &mut Sends) -> WordTurn
         requires node { IsNode self.old }
         requires may { model.can_execute (node_of self.old).phase ≡ true }
@@ -215,7 +216,7 @@ impl<'a> NodeState<'a> {
         self.serve_seen(sends).turn
     }
 
-    /// The same, with what the word wants.
+    /// Executes the next word by the path that serves every word, and says what it wants.
     fn serve_seen(&mut self, sends: &mut Sends) -> WordTurn
         requires nothing { sends.old.items ≡ [] }
         requires node { IsNode self.old }

@@ -107,7 +107,7 @@ fn open_blocks(
     Ok(())
 }
 
-/// The same of one block.
+/// Opens one block: at its home it is exclusive, with its first bytes; elsewhere it is flagged.
 fn open_block(
     program: &Program<'_>,
     layout: &Layout,

@@ -29,7 +29,7 @@ fn put_front(
     Ok(())
 }
 
-/// The same for a hand, in which there may be no wire.
+/// Puts the wire that a hand holds, if it holds one, before those of its list.
 fn put_hand(
     lists: &mut Vec<Vec<VecDeque<Wire>>>,
     k: usize,

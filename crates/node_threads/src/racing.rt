@@ -46,8 +46,8 @@ pub fn race<'a, R: Threads + Wait + Sync, G: Gate + Sync>(
     race_with(rt, alloc, core, CAPACITY, gate)
 }
 
-/// The same, with links that have room for so many wires. A node that is alone needs neither a
-/// thread nor a link.
+/// Runs each node of a core in a thread of its own, over links that have room for so many wires,
+/// and then finishes what they left. A node that is alone needs neither a thread nor a link.
 pub fn race_with<'a, R: Threads + Wait + Sync, G: Gate + Sync>(
     rt: &R,
     alloc: Global,

@@ -1,8 +1,8 @@
 //! What all processors have in common.
 
 ghost use Rattle.std.specs.Prelude.{◌≡◌, ◌+◌, ◌/◌, ◌^◌, ◌<◌, ◌∷◌, ◌++◌, [], ℕ};
-ghost use Rattle.std.specs.Prelude.{true, false, Some, None, MatchOption, IfOk, IfSome, OnOk, OnErr};
-ghost use Rattle.std.specs.Prelude.{is_some, if◌then◌else◌};
+ghost use Rattle.std.specs.Prelude.{true, false, Some, None, MatchOption, IfOk, IfSome, OnOk};
+ghost use Rattle.std.specs.Prelude.{OnErr, is_some, if◌then◌else◌};
 ghost use Rattle.exec_map.specs.Contents.{program_of, first_byte, is_shared};
 ghost use Rattle.rv32_program.specs.Program.{IsAccepted, class_at, is_writable};
 ghost use Rattle.rv32_program.specs.declared.Class.TheVariants.{ReadOnly};

@@ -83,7 +83,8 @@ impl Reservations {
         }
     }
 
-    /// The same, for each processor. What may be reserved is found anew.
+    /// Looks at the reservation of each other processor, and ends those of the block. It finds
+    /// anew whether any is left.
     #[inline(never)]
     fn end_each(&mut self, layout: &Layout, p: u8, address: u32)
         ensures { reserved_in self.new

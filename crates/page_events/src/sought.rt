@@ -8,7 +8,7 @@ ghost use Rattle.page_events.specs.Sought as model;
 use crate::shown::Shown;
 use block_layout::Block;
 use event_text::node_machine::{Wanted, WantedBlocks};
-use event_text::run_trace::{TakeTraced, Traced, What, WordTraced};
+use event_text::run_trace::{Traced, What};
 use event_text::{block_reached, is_block};
 
 /// What is looked for among the events of a page.

@@ -173,7 +173,7 @@ fn tally_known(number: u32, turns: u32, count: u32) -> [u32; 16]
     tally
 }
 
-/// The same among any count, by its reciprocal.
+/// How often each place is chosen among any count, by its reciprocal.
 fn tally_any(number: u32, turns: u32, count: u32) -> [u32; 16]
     requires some { 1 ≤ count }
     requires few { count ≤ 16 }

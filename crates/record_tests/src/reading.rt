@@ -4,8 +4,9 @@ use run_record::{RecordRefused, read_record, write_record};
 use std::alloc::{AllocError, Global};
 use std::test::Fail;
 
-/// The lines of the record of a run of two nodes, in the first version.
-const LINES: [&str; 16] = [
+/// The lines of the record of a run of two nodes of which one reads what the other has, in the
+/// first version.
+pub(crate) const LINES: [&str; 16] = [
     "shasta-record 1\n",
     "nodes 2\n",
     "budget 100000000\n",
@@ -60,7 +61,7 @@ const CASES: [(usize, &str, u8, usize); 28] = [
 
 /// The same record in the second version, which names the number of rewritten words and the gaps of
 /// takes: the first, of least stamp 7, has none, and the last of node 0, of least stamp 13, has 3.
-const NAMED: [&str; 17] = [
+pub(crate) const NAMED: [&str; 17] = [
     "shasta-record 2\n",
     "nodes 2\n",
     "budget 100000000\n",
@@ -169,8 +170,8 @@ fn a_record_of_named_words_with_one_line_replaced(rt: HostRuntime) -> Result<(),
     Ok(())
 }
 
-/// Fails the test where a record whose sixth line breaks a rule isn't refused for it, or not for the
-/// version of another record.
+/// Fails the test where a record whose sixth line breaks a rule isn't refused for it, or not for
+/// the version of another record.
 fn try_sixth(alloc: Global, sixth: &'static str, number: u8) -> Result<(), Fail> {
     let mut lines = LINES;
     lines[5] = sixth;

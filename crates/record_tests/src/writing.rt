@@ -3,55 +3,15 @@
 ghost use Rattle.std.specs.Prelude.{◌≡◌, IfOk, IfSome};
 ghost use Rattle.run_record.specs.Record.{IsRecord, IsCodeLength};
 
+use crate::reading::{LINES, NAMED};
 use block_layout::BlockRange;
 use node_model::Entry;
 use run_record::{Blocks, Journals, Record, write_record};
 use std::alloc::{AllocError, Global};
 use std::test::Fail;
 
-/// The record of a run of two nodes of which one reads what the other has.
-const TWO_NODES: &str = concat!(
-    "shasta-record 1\n",
-    "nodes 2\n",
-    "budget 100000000\n",
-    "batch 1\n",
-    "node 0\n",
-    "take 7 0 6\n",
-    "take 9 1 0\n",
-    "take 10 0 0\n",
-    "take 12 1 0\n",
-    "take 16 1 0\n",
-    "end\n",
-    "node 1\n",
-    "take 9 0 8\n",
-    "take 11 0 0\n",
-    "take 16 1 4\n",
-    "end\n",
-);
-
-/// The same, where the number of rewritten words is named.
-const WORDS_NAMED: &str = concat!(
-    "shasta-record 2\n",
-    "nodes 2\n",
-    "budget 100000000\n",
-    "batch 1\n",
-    "code 15\n",
-    "node 0\n",
-    "take 0 0 6\n",
-    "take 1 1 0\n",
-    "take 0 0 0\n",
-    "take 1 1 0\n",
-    "take 3 1 0\n",
-    "end\n",
-    "node 1\n",
-    "take 0 0 8\n",
-    "take 1 0 0\n",
-    "take 0 1 4\n",
-    "end\n",
-);
-
 /// The record of a run of one node, over two ranges of a layout.
-const TWO_RANGES: &str = concat!(
+const TWO_RANGES: [&str; 8] = [
     "shasta-record 1\n",
     "nodes 1\n",
     "budget 4294967296\n",
@@ -60,7 +20,16 @@ const TWO_RANGES: &str = concat!(
     "block 0x7f00bfc0 0x00000040 64 *\n",
     "node 0\n",
     "end\n",
-);
+];
+
+/// Lines, one behind the other.
+fn joined(alloc: Global, lines: &[&str]) -> Result<Vec<u8>, AllocError> {
+    let mut text = Vec::new(alloc);
+    for line in lines {
+        text.extend_from_slice(line.as_bytes())?;
+    }
+    Ok(text)
+}
 
 fn entry(stamp: u64, from: u8, words: u64) -> Entry
     ensures { result ≡ record { stamp = stamp; from = from; words = words } }
@@ -123,13 +92,13 @@ fn two_ranges(alloc: Global) -> Result<Record, AllocError>
     })
 }
 
-/// Fails the test where a record has another text.
-fn try_record(alloc: Global, record: &Record, wanted: &str) -> Result<(), Fail>
+/// Fails the test where the text of a record has other lines.
+fn try_record(alloc: Global, record: &Record, wanted: &[&str]) -> Result<(), Fail>
     requires { IsRecord record.now }
 {
     let mut text = Vec::new(alloc);
     write_record(record, &mut text)?;
-    if text.as_slice() == wanted.as_bytes() {
+    if text.as_slice() == joined(alloc, wanted)?.as_slice() {
         return Ok(());
     }
     Err(Fail::from("another text"))
@@ -139,9 +108,9 @@ fn try_record(alloc: Global, record: &Record, wanted: &str) -> Result<(), Fail>
 fn records_have_these_texts(rt: HostRuntime) -> Result<(), Fail> {
     let alloc = rt.alloc();
     let stamped = two_nodes(alloc, None)?;
-    try_record(alloc, &stamped, TWO_NODES)?;
+    try_record(alloc, &stamped, &LINES)?;
     let named = two_nodes(alloc, Some(15))?;
-    try_record(alloc, &named, WORDS_NAMED)?;
+    try_record(alloc, &named, &NAMED)?;
     let laid = two_ranges(alloc)?;
-    try_record(alloc, &laid, TWO_RANGES)
+    try_record(alloc, &laid, &TWO_RANGES)
 }

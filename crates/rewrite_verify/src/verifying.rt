@@ -19,7 +19,7 @@ use rewriter::flow_graph::Graph;
 use rewriter::jump_map::{ImageRefused, image_law};
 use rewriter::liveness::Live;
 use rewriter::{Rewritten, map_bytes, map_section};
-use std::alloc::{AllocError, Global};
+use std::alloc::Global;
 
 /// Takes an executable for the rewriting, by the plan that it says, of a program that was accepted
 /// from the original: any plan that is admissible will do.

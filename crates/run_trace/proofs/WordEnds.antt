@@ -24,7 +24,6 @@ use Rattle.home_directory.specs.Table.{Miss, want_row}
 use Rattle.node_model.specs.miss_handlers.Effects.{block_facts}
 use Rattle.node_model.specs.declared.NodeCounts.{NodeCounts}
 use Rattle.node_model.specs.Node.{Work, Node, Want, Move, Next, Again, To, Enters, Waits, Leaves, Phase, Running, Resumed, Waiting, Ended, WordOutcome, word_outcome, phase_after, end_of, is_at_poll, standing_in, has_all_byes, counts_after}
-use Rattle.node_model.specs.declared.Standing.{Standing}
 use Rattle.node_model.specs.declared.Standing.TheVariants as standing
 use Rattle.node_model.specs.Turns.{Turn, block_at, want_in, want_all, with_miss, with_byes, byes_to, is_ended, count_want, wants_of, each_block_once, after_word, after_wants, word_turn}
 use Rattle.replay.specs.rewriting_law.CoreRun.{is_exit, is_wait, commits_by}

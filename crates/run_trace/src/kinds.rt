@@ -1,11 +1,9 @@
 //! When the words of rewritten code commit, looked up once for each.
 
-ghost use Rattle.std.specs.Prelude.{◌≡◌, IfOk, List};
+ghost use Rattle.std.specs.Prelude.{◌≡◌, IfOk};
 ghost use Rattle.rv32_program.specs.Program.{Program};
 ghost use Rattle.templates.specs.Code.{HasCode};
 ghost use Rattle.templates.specs.Commits.{commit_at};
-ghost use Rattle.templates.specs.declared.plans.PlanEntry.{PlanEntry as OfPlan};
-ghost use Rattle.node_model.specs.jump_map.Image.{Cell};
 ghost use Rattle.node_model.specs.jump_map.Maps.{old_of};
 ghost use Rattle.run_trace.specs.Kinds.{AreKindsOf, kind_in};
 

@@ -5,7 +5,7 @@ ghost use Rattle.rv32_step.specs.Registers.{registers_of};
 ghost use Rattle.rv32_step.specs.Demands as model;
 
 use crate::{Demand, Registers};
-use rv32_decode::{ImmOp, Instr, Op, Reg, ShiftOp};
+use rv32_decode::{ImmOp, Instr, Op, ShiftOp};
 use rv32_ops::{alu, taken};
 use rv32_program::Exit;
 

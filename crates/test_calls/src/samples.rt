@@ -4,8 +4,10 @@
 pub const USAGE: &str = "usage: shasta rewrite IN OUT [--no-batch]
        shasta list IN
        shasta one IN [--nodes N] [--order K] [--budget B] [--layout FILE]
-       shasta sim IN [--nodes N] [--order K] [--budget B] [--layout FILE] [--code FILE | --verify FILE] [--no-batch] [--brief] [--loss L] [--per-node M]
-       shasta run IN [--nodes N] [--record FILE] [--budget B] [--layout FILE] [--code FILE | --verify FILE] [--no-batch] [--brief]
+       shasta sim IN [--nodes N] [--order K] [--budget B] [--layout FILE] \
+    [--code FILE | --verify FILE] [--no-batch] [--brief] [--loss L] [--per-node M]
+       shasta run IN [--nodes N] [--record FILE] [--budget B] [--layout FILE] \
+    [--code FILE | --verify FILE] [--no-batch] [--brief]
        shasta replay IN RECORD [--verify FILE] [--brief]
        shasta gen NUMBER OUT
        shasta asm TEXT OUT

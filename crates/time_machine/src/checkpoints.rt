@@ -4,6 +4,7 @@ ghost use Rattle.std.specs.Prelude.{◌≡◌, ◌+◌, ◌*◌, ◌/◌, ◌<�
 ghost use Rattle.time_machine.specs.Stand.{Run};
 ghost use Rattle.time_machine.specs.Checkpoints.{IsAt, IsOfRun, AreOfRun, AreBehind, IsNearest};
 
+use block_layout::LINE_BYTES;
 use exec_map::Program;
 use one_memory::{OneMemory, contained_law};
 use run_limits::NodeCount;
@@ -13,9 +14,7 @@ use std::marker::Model;
 /// A megabyte, in bytes.
 const MEGABYTE: u64 = 0x10_0000;
 
-/// The bytes of a line, and those of its instructions, decoded.
-const LINE_BYTES: u64 = 64;
-
+/// The bytes of the instructions of a line, decoded.
 const DECODED_BYTES: u64 = 256;
 
 /// The bytes of a processor: its window, its registers, and what else it has.
@@ -57,10 +56,12 @@ pub(crate) fn bytes_of_copy(
 ) -> Result<u64, AllocError> {
     let mut bytes = PROCESSOR_BYTES * u64::from(nodes.number());
     for shared in program.shared_ranges(alloc)?.as_slice() {
-        bytes = bytes.saturating_add(LINE_BYTES * u64::from(shared.lines));
+        bytes = bytes.saturating_add(u64::from(LINE_BYTES) * u64::from(shared.lines));
     }
     for fixed in program.read_only_ranges(alloc)?.as_slice() {
-        bytes = bytes.saturating_add((LINE_BYTES + DECODED_BYTES) * u64::from(fixed.lines));
+        bytes = bytes.saturating_add(
+            (u64::from(LINE_BYTES) + DECODED_BYTES) * u64::from(fixed.lines),
+        );
     }
     Ok(bytes)
 }
@@ -135,7 +136,8 @@ impl<'a> Checkpoints<'a> {
     }
 
     /// Keeps a copy of the processors at a position, if there is memory for it. Where there is no
-    /// room for it, every other checkpoint goes, and from now on twice as many picks lie between two.
+    /// room for it, every other checkpoint goes, and from now on twice as many picks lie between
+    /// two.
     #[inline(never)]
     fn keep(&mut self, position: usize, machine: &OneMemory<'a>)
         ensures { (r : Run) → AreOfRun r self.old → IsAt r position machine.now

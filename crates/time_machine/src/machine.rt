@@ -1,6 +1,7 @@
 //! A position in a run, and its moves.
 
-ghost use Rattle.std.specs.Prelude.{◌≡◌, ◌+◌, ◌<◌, ◌≤◌, length, true, Some, None, IfOk, OnOk, OnErr};
+ghost use Rattle.std.specs.Prelude.{◌≡◌, ◌+◌, ◌<◌, ◌≤◌, length, true, Some, None};
+ghost use Rattle.std.specs.Prelude.{IfOk, OnOk, OnErr};
 ghost use Rattle.one_memory.specs.Machine.{original_of, state_of};
 ghost use Rattle.time_machine.specs.Stand.{Stand, IsInterleaved, original_in, state_at};
 ghost use Rattle.time_machine.specs.Stops.{came_at, hit_at, step_at};

@@ -9,8 +9,8 @@ ghost use Rattle.rv32_step.specs.OneMemory as model;
 ghost use Rattle.one_memory.specs.Machine.{original_of, state_of};
 ghost use Rattle.one_memory.specs.Shown.{pick_of};
 ghost use Rattle.time_machine.specs.Hits.{IsOfOne};
-ghost use Rattle.time_machine.specs.Stops.{came_by as model_came, touch_of, next_step as model_step};
-ghost use Rattle.time_machine.specs.Stops.{step_by};
+ghost use Rattle.time_machine.specs.Stops.{came_by as model_came, next_step as model_step};
+ghost use Rattle.time_machine.specs.Stops.{step_by, touch_of};
 
 use exec_map::{Class, Program};
 use one_memory::{OneMemory, Pick};

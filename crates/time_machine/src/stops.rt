@@ -45,8 +45,8 @@ pub(crate) fn first_hit(stops: &[StopPoint], step: Option<NextStep>) -> Option<u
     stops.iter().position(|stop| is_hit(step, *stop))
 }
 
-/// The first of the stops that is met between a step that was made, where its processor came to, and
-/// the next.
+/// The first of the stops that is met between a step that was made, where its processor came to,
+/// and the next.
 pub(crate) fn first_met(
     stops: &[StopPoint],
     made: Option<NextStep>,

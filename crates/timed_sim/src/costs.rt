@@ -61,7 +61,7 @@ impl Spent {
         }
     }
 
-    /// The same, once the node has been idle until a time.
+    /// What the node has spent once it has been idle until a time.
     pub(crate) fn idle_until(mut self, time: u128) -> Spent
         requires time { clock_of self ≤ time }
         ensures value { result ≡ idle_until time self }

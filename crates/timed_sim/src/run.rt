@@ -65,10 +65,10 @@ pub fn simulate_by_clock(alloc: Global, work: &Work<'_>, costs: &Costs) -> Resul
 }
 
 /// The fewest words of a node that are tried at once.
-const LEAST_WINDOW: u32 = 16;
+const LEAST_WORDS: u32 = 16;
 
 /// The most words of a node that are made at once.
-const MOST_WINDOW: u32 = 4096;
+const MOST_WORDS: u32 = 4096;
 
 /// A core on its way, and its clocks.
 #[derive(Drop)]
@@ -101,7 +101,7 @@ impl<'a> TimedRun<'a> {
             clocks,
             costs: *costs,
             undo_logs,
-            window: LEAST_WINDOW,
+            window: LEAST_WORDS,
         })
     }
 
@@ -145,7 +145,7 @@ impl<'a> TimedRun<'a> {
             (core_of self.new.core) }
         ensures kept { result ≡ false → IsKept self.old self.new }
     {
-        let window = self.window.max(LEAST_WINDOW).min(MOST_WINDOW);
+        let window = self.window.max(LEAST_WORDS).min(MOST_WORDS);
         let end = self.clocks.free_until(&self.core, window);
         match self.make_words_until(end) {
             Ok(made) => {
@@ -153,7 +153,7 @@ impl<'a> TimedRun<'a> {
                 made
             }
             Err(stop) => {
-                self.window = stop.words.min(u64::from(MOST_WINDOW)) as u32;
+                self.window = stop.words.min(u64::from(MOST_WORDS)) as u32;
                 self.make_words_before(stop, end)
             }
         }

@@ -1,4 +1,3 @@
-use Rattle.std.proofs.Common.{refl, sym}
 use Rattle.rv32_ops.specs.Operations.{alu}
 use Rattle.node_memory.specs.rv32_step.Registers.{reg, registers_of}
 use Rattle.node_memory.specs.rv32_step.declared.Demand.TheVariants.{Sets}

@@ -1,13 +1,96 @@
-//! Examples: two nodes that upgrade at once, and a write to a block that sixteen nodes share.
+//! The protocol without code, message by message: two nodes that upgrade at once, a write to a block
+//! that sixteen nodes share, and requests that wait at a home.
 
-use crate::drive::{layout_of, nodes_of, take, take_all, want};
+ghost use Rattle.std.specs.Prelude.{◌≡◌, ◌<◌, ◌≤◌, IfOk};
+
+use block_layout::{Layout, Lines, Ranges, default_layout};
 use buf_pool::{Buf, Pool};
 use dsm_protocol::Protocol;
+use flag_memory::FirstBytes;
 use home_directory::Directory;
 use home_directory::dsm_messages::{Message, Need, Post, Sends};
 use state_table::State;
 use std::alloc::{AllocError, Global};
 use std::test::Fail;
+
+/// How many times all lists are looked through, at most, after a want.
+const PASSES: u32 = 1000;
+
+/// So many nodes with so many blocks of a line each, from address 0x20000 on.
+fn nodes_of(alloc: Global, lines: u32, nodes: u8) -> Result<Protocol, AllocError>
+    requires some { 0 < lines }
+    requires few { lines ≤ 65536 }
+    requires one { 0 < nodes }
+    requires most { nodes ≤ 16 }
+{
+    let layout = layout_of(alloc, lines, nodes)?;
+    Protocol::new(alloc, &layout, &FirstBytes::new(Vec::new(alloc)), nodes)
+}
+
+/// The layout of so many lines from address 0x20000 on, each a block, for `nodes` nodes.
+fn layout_of(alloc: Global, lines: u32, nodes: u8) -> Result<Layout, AllocError>
+    requires some { 0 < lines }
+    requires few { lines ≤ 65536 }
+    requires one { 0 < nodes }
+    requires most { nodes ≤ 16 }
+    ensures nodes { IfOk result (λ l. l.nodes ≡ nodes) }
+{
+    let mut items = Vec::new(alloc);
+    items.push(Lines {
+        first: 0x800,
+        lines,
+    })?;
+    default_layout(alloc, &Ranges::new(items), nodes)
+}
+
+/// A node wants a block. False where it asks nobody: it has the block, or waits for it or for two
+/// others; or there is no such node or block.
+fn want(protocol: &mut Protocol, node: u8, block: u32, need: Need) -> Result<bool, AllocError> {
+    if node >= protocol.layout().nodes() || block >= protocol.layout().blocks() {
+        return Ok(false);
+    }
+    if protocol.waits(node) == 2 || protocol.waits_for(node, block) {
+        return Ok(false);
+    }
+    protocol.want(node, block, need)
+}
+
+/// Takes messages until no list has one. Gives how many.
+fn take_all(protocol: &mut Protocol) -> Result<u64, AllocError> {
+    let mut takes = 0u64;
+    for _pass in 0..PASSES {
+        let taken = take_each(protocol)?;
+        if taken == 0 {
+            break;
+        }
+        takes = takes.wrapping_add(taken);
+    }
+    Ok(takes)
+}
+
+/// Takes the first message of each list that has one. Gives how many.
+fn take_each(protocol: &mut Protocol) -> Result<u64, AllocError> {
+    let nodes = protocol.layout().nodes();
+    let mut taken = 0u64;
+    for node in 0..nodes {
+        for from in 0..nodes {
+            if take(protocol, node, from)? {
+                taken = taken.wrapping_add(1);
+            }
+        }
+    }
+    Ok(taken)
+}
+
+/// A node takes the first message from another. False where there is none, or no such node.
+fn take(protocol: &mut Protocol, node: u8, from: u8) -> Result<bool, AllocError> {
+    let nodes = protocol.layout().nodes();
+    if node >= nodes || from >= nodes || protocol.first(node, from).is_none() {
+        return Ok(false);
+    }
+    protocol.take(node, from)?;
+    Ok(true)
+}
 
 /// A message's kind, its requester or 0, and its number of Acks or 0.
 fn parts(message: &Message) -> (&'static str, u8, u8) {
