@@ -15,3 +15,4 @@ pub mod FirstPlaces
 pub mod LanesLemmas
 pub mod StandingLemmas
 pub mod SilentLemmas
+pub mod InUseLemmas

@@ -1,10 +1,9 @@
 -- A lane's word by its micro-op.
-use Rattle.std.proofs.Common.{◌≡◌, ◌≢◌, ℕ, ◌+◌, ◌*◌, ◌<◌, ◌≤◌, true, false, cond, eqb, List, [], length, set, get_or, Option, Some, None, refl, sym, ap, ◌∙◌, subst, inl, inr, arith, length-set}
+use Rattle.std.proofs.Common.{◌≡◌, ◌≢◌, ℕ, ◌+◌, ◌*◌, ◌<◌, true, false, cond, eqb, List, [], length, set, get_or, Option, Some, None, refl, sym, ap, ◌∙◌, subst, inl, inr, arith, length-set}
 use Rattle.std.specs.Prelude.{is_some}
 use Rattle.std.specs.Box.{with_value}
 use Rattle.std.specs.Vec.{with_item}
 use Rattle.std.specs.Option.{option_map_or}
-use Rattle.std.proofs.lemmas.List.{set-get_or}
 use Rattle.std.proofs.lemmas.Bool.Decides.{eqb_tells, nat_tests}
 use Rattle.block_layout.specs.Layout.{Shape, block_of}
 use Rattle.llsc.specs.Reservation.{cleared}
@@ -27,14 +26,14 @@ use Rattle.node_machine.specs.NodeState.{layout_of, phase_of, AreCountsBelow}
 use Rattle.node_machine.proofs.NodeStateLemmas.{counts_up}
 use Rattle.node_machine.proofs.WaitLemmas.{none_waits}
 use Rattle.lane_model.specs.Nodes.{LaneNode, LanePart}
-use Rattle.lane_model.specs.Turns.{held_by, word_turn}
+use Rattle.lane_model.specs.Turns.{word_turn}
 use Rattle.lane_machine.specs.declared.lane_protocol.LaneProtocol.{LaneProtocol}
 use Rattle.lane_machine.specs.declared.stored.StoredLane.{StoredLane}
 use Rattle.lane_machine.specs.declared.stored.StoredShared.{StoredShared}
 use Rattle.lane_machine.specs.Waits.{wait_among, place_among, waits_in}
 use Rattle.lane_machine.specs.Words.{stored_by, reserved_after}
 use Rattle.lane_machine.specs.Places.{in_use, pools_in, reserved_in, wait_at}
-use Rattle.lane_machine.specs.Stored.{HasLane, IsAtRest, IsHeld, IsLane, IsSameShared, IsShared, WaitsFor, ended_in, lane_turn, part_of, seen_at, served, shared_of, with_lane, word_asks, work_in, work_of}
+use Rattle.lane_machine.specs.Stored.{HasLane, IsAtRest, IsHeld, IsLane, IsShared, WaitsFor, ended_in, lane_turn, part_of, seen_at, served, with_lane, word_asks, work_in, work_of}
 use Rattle.lane_machine.specs.ProtocolStates.{asked_by}
 use Rattle.lane_machine.proofs.ClearLemmas.{reserved_there, same_pools, same_waits}
 use Rattle.lane_machine.proofs.ExecLemmas.{ending_is, going_on, stored_node, turn_is}
@@ -239,45 +238,3 @@ module _ (l : StoredLane) (f : StoredShared) (p q : LaneProtocol) (lane' : kept.
             ended = both.1 ∙ ap (ended_in (with_lane x lane_then shared_then)) (sym (length-set ps k q));
           },
         )
-
--- 3. Where the path that serves every word has to
-
-module _ (l : StoredLane) (f : StoredShared) (k : ℕ) (p q : LaneProtocol) (b' : ExecState) (at : p ≡ get_or f.places.items k p)
-    (place : q ≡ p) (body : b' ≡ f.state.body.value) where
-  abbrev pub shared_back : StoredShared
-  shared_back = record f {
-    state = record f.state { body = with_value f.state.body b' };
-    places = with_item f.places k q;
-  }
-
-  items : set f.places.items k q ≡ f.places.items
-  items = ap (set f.places.items k) (place ∙ at) ∙ set-get_or f.places.items k p
-
-  pub is_same : IsSameShared f shared_back
-  is_same = record {
-    shared = λ t. record (shared_of f) {
-      copy = (local_of (body t).local).copy;
-      state = (local_of (body t).local).state;
-      reservation = reserved_in (items t);
-      wait = wait_among (waits_in (items t));
-      holder = held_by (wait_among (waits_in (items t))) (place_among (waits_in (items t)));
-      counts = (body t).counts;
-    };
-    places = items;
-    body = body;
-    ended = refl;
-  }
-
-  pub shared_kept : IsShared f → IsShared shared_back
-  shared_kept is = record {
-    rest = subst (λ ps. IsAtRest (layout_of b') f.state.protocol ps) (sym items)
-        (subst (λ (x : ExecState). IsAtRest (layout_of x) f.state.protocol f.places.items) (sym body) is.rest);
-    layout = is.layout ∙ ap layout_of (sym body);
-    some = subst (λ ps. 0 < length ps) (sym items) is.some;
-    few = subst (λ ps. length ps ≤ 4) (sym items) is.few;
-    noted = is.noted;
-    counts = subst (λ (x : ExecState). AreCountsBelow (32 * f.state.stamp) x.counts) (sym body) is.counts;
-  }
-
-  pub work_kept : work_of l shared_back ≡ work_of l f
-  work_kept = λ t. record { work = work_in (body t) l.state.image.now l.state.budget; lanes = length (items t) }

@@ -12,8 +12,11 @@ ghost use Rattle.lane_model.specs.Turns as moves;
 ghost use Rattle.lane_model.specs.Core as core;
 ghost use Rattle.lane_machine.specs.Waits.{wait_among, waits_in};
 ghost use Rattle.lane_machine.specs.Places.{wait_at};
-ghost use Rattle.lane_machine.specs.Stored.{HasLane, HasRoom, HasGoneOn, IsHeld, IsSameShared};
+ghost use Rattle.lane_machine.specs.Stored.{HasLane, HasRoom, HasGoneOn, IsHeld};
 ghost use Rattle.lane_machine.specs.Stored.{WaitsFor, lane_turn, part_of, work_of, with_lane};
+ghost use Rattle.lane_machine.specs.InUse.{AreSwapped, IsAlone};
+ghost use Rattle.lane_machine.specs.declared.stored.StoredLane.{StoredLane};
+ghost use Rattle.lane_machine.specs.declared.stored.StoredShared.{StoredShared};
 
 use crate::asking::NO_BLOCK;
 use crate::lane_protocol::LaneProtocol;
@@ -165,32 +168,53 @@ impl<'a> Lane<'a> {
         self.inner.exec(&mut shared.inner, sends)
     }
 
-    /// Executes the next word by its micro-op, where that serves it, the budget has a further word
-    /// for after it, and no other lane has reserved an address. Otherwise nothing changes.
+    /// Whether no other lane has reserved an address.
+    pub fn is_alone(&self, shared: &Shared<'_>) -> bool
+        ensures { result ≡ true → IsAlone self.now shared.now }
+    {
+        self.inner.is_alone(&shared.inner)
+    }
+
+    /// Puts the registers and the reservation in use at the node, and what is in use there in their
+    /// place. A second call puts all back.
     #[inline]
-    pub fn exec_silent(&mut self, shared: &mut Shared<'_>) -> bool
+    pub fn swap_in_use(&mut self, shared: &mut Shared<'_>)
+        requires number { self.old.number < length shared.old.places.items }
+        ensures swapped { AreSwapped self.old shared.old self.new shared.new }
+        ensures back { AreSwapped self.new shared.new self.old shared.old }
+    {
+        self.inner.swap_in_use(&mut shared.inner);
+    }
+
+    /// A lane in use executes its next word by its micro-op, where that serves it and the budget
+    /// has a further word for after it. Otherwise nothing changes.
+    #[inline(always)]
+    pub fn exec_in_use(&mut self, shared: &mut Shared<'_>) -> bool
         requires number { self.old.number < length shared.old.places.items }
         requires idle { (b : ℕ) → wait_at shared.old.places.items self.old.number b ≡ None }
         requires may { model.can_execute (part_of self.old).phase ≡ true }
         requires goes_on { shared.old.ended < length shared.old.places.items }
+        requires alone { IsAlone self.old shared.old }
         requires stamp { shared.old.state.stamp < 2 ^ 56 }
-        ensures turn { result ≡ true → (x : lanes.LaneNode) → HasLane self.old shared.old x →
-            moves.word_turn (work_of self.old shared.old) x self.old.number
-            ≡ lane_turn (with_lane x self.new shared.new) [] None }
-        ensures ended { result ≡ true → (x : lanes.LaneNode) → HasLane self.old shared.old x →
-            HasLane self.new shared.new (with_lane x self.new shared.new) }
+        // The turn is that of the lane which is put back before the word and behind it.
+        ensures turn { result ≡ true → (l m : StoredLane) (f g : StoredShared)
+            → AreSwapped self.old shared.old l f → AreSwapped self.new shared.new m g
+            → (x : lanes.LaneNode) → HasLane l f x → moves.word_turn (work_of l f) x l.number
+            ≡ lane_turn (with_lane x m g) [] None }
+        ensures ended { result ≡ true → (l m : StoredLane) (f g : StoredShared)
+            → AreSwapped self.old shared.old l f → AreSwapped self.new shared.new m g
+            → (x : lanes.LaneNode) → HasLane l f x → HasLane m g (with_lane x m g) }
         ensures may { result ≡ true → model.can_execute (part_of self.new).phase ≡ true }
         ensures waits { result ≡ true → WaitsFor self.new shared.new }
         ensures held { result ≡ true → IsHeld self.new shared.new }
-        ensures places { result ≡ true
-            → waits_in shared.new.places.items ≡ waits_in shared.old.places.items }
         ensures stamps { result ≡ true → shared.new.state.stamp ≡ shared.old.state.stamp + 1 }
         ensures same { result ≡ false → self.new ≡ self.old }
-        ensures kept { result ≡ false → IsSameShared shared.old shared.new }
+        ensures kept { result ≡ false → shared.new ≡ shared.old }
+        ensures places { shared.new.places ≡ shared.old.places }
         ensures number { self.new.number ≡ self.old.number }
         ensures work { work_of self.new shared.new ≡ work_of self.old shared.old }
     {
-        self.inner.exec_silent(&mut shared.inner)
+        self.inner.exec_in_use(&mut shared.inner)
     }
 
     /// Whether the lane may execute a word.

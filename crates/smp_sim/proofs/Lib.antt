@@ -7,5 +7,7 @@ pub mod Firsts
 pub mod Choices
 pub mod Turns
 pub mod Silent
+pub mod NodesInUse
+pub mod TurnsInUse
 pub mod SilentCore
 pub mod LanesTold

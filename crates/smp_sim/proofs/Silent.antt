@@ -1,14 +1,16 @@
 -- A word that sends nothing, and behind which its processor may execute another, leaves what is
 -- allowed as it was, where no message is on its way to its node.
-use Rattle.std.proofs.Common.{◌≡◌, ◌≢◌, ℕ, ◌<◌, ◌&&◌, Bool, true, false, cond, eqb, not, [], ◌++◌, refl, sym, ap, ◌∙◌, inl, inr}
+use Rattle.std.proofs.Common.{◌≡◌, ◌≢◌, ℕ, ◌<◌, ◌&&◌, ◌||◌, Bool, true, false, cond, eqb, not, List, [], ◌++◌, arith, refl, sym, ap, ◌∙◌, inl, inr}
 use Rattle.std.proofs.lemmas.List.{append-nil}
-use Rattle.std.proofs.lemmas.Bool.Decides.{eqb_tells}
+use Rattle.std.proofs.Math.Path.{fun_ext}
+use Rattle.std.proofs.lemmas.Bool.Decides.{eqb_tells, nat_tests}
 use Rattle.lane_model.specs.node_model.declared.Standing.TheVariants as standing
 use Rattle.lane_model.specs.node_model.Node.{Phase, Running, Resumed, Waiting, Ended, can_execute, is_at_poll}
-use Rattle.lane_model.specs.node_model.Core.{may_execute, wires_to}
-use Rattle.lane_model.specs.Nodes.{LaneNode, LanePart, LaneWork, as_node, lane_of, node_of}
+use Rattle.lane_model.specs.node_model.Core.{may_execute, may_take, wires_to}
+use Rattle.home_directory.specs.dsm_messages.declared.messages.Wire.{Wire}
+use Rattle.lane_model.specs.Nodes.{LaneNode, LanePart, LaneWork, all_lanes, as_node, lane_of, node_of, some_lane}
 use Rattle.lane_model.specs.Turns.{LaneTurn, have_ended, word_before, word_turn}
-use Rattle.lane_model.specs.Core.{LaneCore, LaneEvent, Exec, Take, May, event_step, may_take_first, standing_in}
+use Rattle.lane_model.specs.Core.{LaneCore, LaneEvent, Exec, Take, May, event_step, lane_lets, lowers_first, may_take_first, standing_in, standing_of}
 use Rattle.shared_sim.specs.ByOrder.{has_wire}
 use Rattle.smp_sim.specs.CoreParts.{AreAlike}
 use Rattle.smp_sim.specs.CoreSteps.{IsSilent}
@@ -29,6 +31,27 @@ may_is w x k Running = go (is_at_poll w.work (as_node x k))
 may_is w x k Resumed = refl
 may_is w x k (Waiting r) = refl
 may_is w x k (Ended e) = refl
+
+-- what a lane may do next is told by its own part
+pub stands_same : (w : LaneWork) (x y : LaneNode) (k : ℕ) → x.lanes k ≡ y.lanes k
+    → standing_of w x k ≡ standing_of w y k
+stands_same w x y k is = by_phase (x.lanes k).phase
+    ∙ (λ t. standing_in w (record { lanes = λ j. is t; shared = y.shared }) k (is t).phase)
+    ∙ sym (own (y.lanes k).phase)
+  where
+    by_phase : (p : Phase) → standing_in w x k p
+        ≡ standing_in w (record { lanes = λ j. x.lanes k; shared = y.shared }) k p
+    by_phase Running = refl
+    by_phase Resumed = refl
+    by_phase (Waiting r) = refl
+    by_phase (Ended e) = refl
+
+    own : (p : Phase) → standing_in w y k p
+        ≡ standing_in w (record { lanes = λ j. y.lanes k; shared = y.shared }) k p
+    own Running = refl
+    own Resumed = refl
+    own (Waiting r) = refl
+    own (Ended e) = refl
 
 module _ (w : LaneWork) (c : LaneCore) (p : ℕ) (some : 0 < w.lanes) (may : May w c (Exec p))
     (is : IsSilent w c p) where
@@ -111,3 +134,46 @@ module _ (w : LaneWork) (c : LaneCore) (p : ℕ) (some : 0 < w.lanes) (may : May
   silent_choices f alike none = choices_alike w f d some alike
       ∙ same_filtered w (is_allowed w d) (is_allowed w c) (all_events w) (all_there w)
       (same_event (λ j low. sym (alike.lists j i low (placed w p some may.0)) ∙ none j low))
+
+  -- where the processor stands as before, messages on their way to its node change nothing
+  lets_same : standing_of w t.node k ≡ standing_of w x k → (j : ℕ)
+      → lane_lets w t.node j ≡ lane_lets w x j
+  lets_same stands j = elim (eqb_tells j k) [
+    | inl e ↦ ap (lane_lets w t.node) e.1 ∙ ap may_take stands ∙ sym (ap (lane_lets w x) e.1)
+    | inr e ↦ ap may_take (stands_same w t.node x j (other_lane j e.1))
+  ]
+
+  first_same : standing_of w t.node k ≡ standing_of w x k → (ws : List Wire)
+      → may_take_first w t.node ws ≡ may_take_first w x ws
+  first_same stands ws =
+      let lets : lane_lets w t.node ≡ lane_lets w x = fun_ext (lets_same stands) in
+      λ s. some_lane (lets s) w.lanes && (not (lowers_first ws) || all_lanes (lets s) w.lanes)
+
+  still_takes : standing_of w t.node k ≡ standing_of w x k → (m j : ℕ)
+      → is_allowed w d (Take m j) ≡ is_allowed w c (Take m j)
+  still_takes stands m j =
+      ap (λ ws. has_wire ws && may_take_first w (d.nodes m) ws) (list_same j m)
+      ∙ ap (λ z. has_wire (c.list j m) && z) (here (c.list j m))
+    where
+      here : (ws : List Wire) → may_take_first w (d.nodes m) ws ≡ may_take_first w (c.nodes m) ws
+      here ws = elim (eqb_tells m i) [
+        | inl e ↦ (let there : d.nodes m ≡ t.node = rw e.0 refl in
+            ap (λ z. may_take_first w z ws) there ∙ first_same stands ws
+            ∙ ap (λ z. may_take_first w (c.nodes z) ws) (sym e.1))
+        | inr e ↦ (let there : d.nodes m ≡ c.nodes m = rw e.0 refl in
+            ap (λ z. may_take_first w z ws) there)
+      ]
+
+  still_allowed : standing_of w t.node k ≡ standing_of w x k → (e : LaneEvent) → IsThere w e
+      → is_allowed w d e ≡ is_allowed w c e
+  still_allowed stands (Exec q) low = word_same q
+  still_allowed stands (Take m j) low = still_takes stands m j
+
+  pub standing_choices : (f : LaneCore) → AreAlike w.work.layout.nodes f d
+      → standing_of w (f.nodes i) k ≡ standing_of w x k → choices w f ≡ choices w c
+  standing_choices f alike stands =
+      let here : d.nodes i ≡ t.node = (let same : eqb i i ≡ true = grind (arith, nat_tests) in rw same refl) in
+      let node = alike.nodes i (placed w p some may.0) ∙ here in
+      choices_alike w f d some alike
+      ∙ same_filtered w (is_allowed w d) (is_allowed w c) (all_events w) (all_there w)
+      (still_allowed (ap (λ z. standing_of w z k) (sym node) ∙ stands))

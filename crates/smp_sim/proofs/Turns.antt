@@ -11,7 +11,7 @@ use Rattle.smp_sim.specs.declared.cores.SmpEvent.{SmpEvent as Stored}
 use Rattle.smp_sim.specs.CoreParts.{CoreParts, IsRunTo, core_of, event_of, work_of}
 use Rattle.smp_sim.proofs.CoreRuns.{few_nodes}
 use Rattle.smp_sim.specs.ByOrder.{choices, pick_among, FollowsOrder, IsLaneOutcomeByOrder}
-use Rattle.smp_sim.specs.Turns.{ArePicked, LeadsTo}
+use Rattle.smp_sim.specs.Turns.{ArePicked, LeadsTo, StopsAt}
 use Rattle.smp_sim.proofs.Choices.{choices_alike, choice_may}
 
 -- 1. Events that an order picks
@@ -37,7 +37,7 @@ turns_more number (x ∷ es) e = turns_more (following number) es e
 -- 2. From the start to a core
 
 pub leads_none : (first : ℕ) (p : CoreParts) → IsRunTo [] p → LeadsTo first 0 first p
-leads_none first p to = record { events = []; many = refl; picked = tt; numbers = refl; run = to }
+leads_none first p to = record { events = []; many = omega arith; picked = tt; numbers = refl; run = to }
 
 -- by one event more
 pub leads_more : (first turns last next : ℕ) (p q : CoreParts) (e : LaneEvent) → 0 < p.lanes
@@ -61,6 +61,30 @@ leads_more first turns last next p q e some same here goes more to =
       numbers = goes ∙ ap following to.numbers ∙ sym (turns_more first to.events e);
       run = more to.events to.run;
     }
+
+-- by as many at least as by more
+pub fewer_turns : (first turns less number : ℕ) (p : CoreParts) → less ≤ turns
+    → LeadsTo first turns number p → LeadsTo first less number p
+fewer_turns first turns less number p le to =
+    let many = to.many in
+    record {
+      events = to.events;
+      many = omega (arith, le, many);
+      picked = to.picked;
+      numbers = to.numbers;
+      run = to.run;
+    }
+
+-- by the turns before an event that is picked, and by that event
+pub leads_then : (first turns number next : ℕ) (p q r : CoreParts) (e : LaneEvent) → 0 < q.lanes
+    → work_of r ≡ work_of q → StopsAt number p next q e
+    → ((run : List LaneEvent) → IsRunTo run q → IsRunTo (run ++ e ∷ []) r)
+    → LeadsTo first turns number p → LeadsTo first (turns + 1) next r
+leads_then first turns number next p q r e some same stops more to =
+    fewer_turns first (turns + 0 + 1) (turns + 1) next r (omega arith)
+    (leads_more first (turns + 0) stops.last next q r e some same
+    (ap (pick_among (choices (work_of q) (core_of q))) (sym stops.follows) ∙ stops.picked)
+    stops.follows more (stops.leads first turns to))
 
 -- what is picked from a list of the choices
 pub picked_here : (w : LaneWork) (c : LaneCore) (items listed : List Stored) (number : ℕ) (e : LaneEvent)

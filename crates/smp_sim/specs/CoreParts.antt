@@ -38,6 +38,19 @@ lane_work w = work_with (plain_work w.program.now w.image.now w.layout.now w.bud
 abbrev pub work_of : CoreParts → LaneWork
 work_of p = work_with (plain_work p.program p.image p.layout p.budget) p.lanes
 
+-- with these nodes and lists, and these bytes printed
+abbrev pub parts_of : SmpWork → List SmpNode → List Queue → (output : List ℕ) → CoreParts
+parts_of w nodes lists output = record {
+  program = w.program.now;
+  image = w.image.now;
+  layout = w.layout.now;
+  budget = w.budget;
+  lanes = w.lanes;
+  nodes = nodes;
+  lists = lists;
+  output = output;
+}
+
 -- node i of these lanes and what they share; beyond the last lane it is as at the start
 abbrev pub node_in : LaneWork → (i : ℕ) → SmpNode → LaneNode
 node_in w i x = record {

@@ -3,3 +3,4 @@ pub mod CoreSteps
 pub mod ByOrder
 pub mod Listing
 pub mod Turns
+pub mod InUse

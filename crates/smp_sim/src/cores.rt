@@ -2,18 +2,21 @@
 //! the nodes.
 
 ghost use Rattle.std.specs.Prelude.{◌≡◌, ◌*◌, ◌<◌, ◌≤◌, ◌↔◌, ◌++◌, ℕ, List, [], ◌∷◌, true, false};
-ghost use Rattle.std.specs.Prelude.{length, IfOk, OnOk, OnErr};
+ghost use Rattle.std.specs.Prelude.{length, map, MatchOption, IfOk, OnOk, OnErr};
 ghost use Rattle.dsm_core.specs.rewriting_law.Bounds.{RunsRewritten};
-ghost use Rattle.lane_model.specs.Nodes.{node_of, processors};
+ghost use Rattle.lane_model.specs.Nodes.{lane_of, node_of, processors};
 ghost use Rattle.lane_model.specs.Core as model;
-ghost use Rattle.lane_model.specs.Core.{May, event_step, opening_core};
+ghost use Rattle.lane_model.specs.Core.{May, event_step, opening_core, standing_of};
 ghost use Rattle.lane_law.specs.Law.{AreAllOver, AreEmpty, GoesOn, most_lane_events};
 ghost use Rattle.dsm_core.specs.CoreParts.{work_in};
 ghost use Rattle.smp_sim.specs.CoreParts.{AreAlike, IsNode, IsRunTo, core_of, event_of, node_in};
 ghost use Rattle.smp_sim.specs.CoreParts.{work_of, work_with};
 ghost use Rattle.smp_sim.specs.CoreSteps.{IsSilent};
+ghost use Rattle.smp_sim.specs.ByOrder.{choices};
+ghost use Rattle.smp_sim.specs.Turns.{LeadsOn, StopsAt};
 
 use crate::node::SmpNode;
+use crate::runs::run_silent;
 use crate::steps::{are_over, first_nodes, has_mail, is_enabled, make};
 use crate::work::SmpWork;
 use dsm_core::Work;
@@ -21,6 +24,8 @@ use home_directory::dsm_messages::Sends;
 use lane_law::dsm_protocol::Queue;
 use lane_law::dsm_protocol::lists::empty_lists;
 use lane_law::lane_progress_law;
+use lane_machine::Standing;
+use random_order::Order;
 use std::alloc::{AllocError, Global};
 use std::marker::Model;
 
@@ -218,6 +223,33 @@ impl<'a> SmpCore<'a> {
         let node = processor / self.work.lanes;
         let lane = processor % self.work.lanes;
         self.nodes[node as usize].exec_silent(lane)
+    }
+
+    /// What a processor may do next.
+    pub(crate) fn standing(&self, processor: u8) -> Standing
+        requires processor { processor < processors (work_of self.now) }
+        ensures value { result ≡ standing_of (work_of self.now)
+            ((core_of self.now).nodes (node_of (work_of self.now) processor))
+            (lane_of (work_of self.now) processor) }
+    {
+        let lanes = self.lanes();
+        self.node(processor / lanes).standing(processor % lanes)
+    }
+
+    /// Makes the turns that an order picks next among the events that are listed, as long as each
+    /// is a word by its micro-op and no message is on its way to its node. It gives the event that
+    /// is picked behind them, which isn't made, or `None` after many turns.
+    pub(crate) fn run_silent(&mut self, events: &[SmpEvent], order: &mut Order) -> Option<SmpEvent>
+        requires some { 1 ≤ length events.now }
+        requires few { length events.now ≤ 65536 }
+        requires listed { map event_of events.now ≡ choices (work_of self.old) (core_of self.old) }
+        ensures listed { map event_of events.now ≡ choices (work_of self.new) (core_of self.new) }
+        ensures leads { MatchOption result (LeadsOn 1 order.old self.old order.new self.new)
+            (λ e. StopsAt order.old self.old order.new self.new (event_of e)) }
+        ensures work { work_of self.new ≡ work_of self.old }
+        ensures some { 0 < self.new.lanes }
+    {
+        run_silent(&mut self.nodes, &self.lists, &self.work, events, order)
     }
 
     /// Whether a message is on its way to the node of a processor.

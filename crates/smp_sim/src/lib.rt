@@ -7,6 +7,7 @@ mod cores;
 mod listing;
 mod node;
 mod outcome;
+mod runs;
 mod steps;
 mod work;
 

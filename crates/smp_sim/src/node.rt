@@ -1,7 +1,7 @@
 //! A node of several processors, as it is stored, and its events.
 
 ghost use Rattle.std.specs.Prelude.{◌≡◌, ◌+◌, ◌^◌, ◌<◌, ◌≤◌, ℕ, true, false, IfOk, OnOk};
-ghost use Rattle.std.specs.Prelude.{List, [], ◌∷◌, None, length};
+ghost use Rattle.std.specs.Prelude.{List, [], ◌∷◌, None, Some, length, slice_index_or};
 ghost use Rattle.home_directory.specs.dsm_messages.declared.messages.Wire.{Wire as Sent};
 ghost use Rattle.lane_machine.specs.miss_handlers.Rows.{takes_away};
 ghost use Rattle.lane_model.specs.node_model.Core as plain;
@@ -14,6 +14,9 @@ ghost use Rattle.lane_model.specs.Turns.{word_turn, take_turn};
 ghost use Rattle.lane_machine.specs.Stored.{HasRoom, lane_turn};
 ghost use Rattle.smp_sim.specs.CoreParts.{IsNode, lane_work, node_in};
 ghost use Rattle.smp_sim.specs.CoreSteps.{AreFirstLanes, CanExecute};
+ghost use Rattle.smp_sim.specs.InUse.{HasTurned, IsSameNode, IsSwapped, MayTurn, RestsAs};
+ghost use Rattle.smp_sim.specs.declared.node.SmpNode.{SmpNode};
+ghost use Rattle.lane_machine.specs.declared.stored.StoredLane.{StoredLane};
 
 use crate::work::SmpWork;
 use exec_map::End;
@@ -77,6 +80,89 @@ impl<'a> SmpNode<'a> {
         self.lanes[lane as usize].exec(&mut self.shared, sends)
     }
 
+    /// The registers and the reservation of a lane change places with what is in use.
+    #[inline]
+    fn swap_in_use(&mut self, lane: u8)
+        requires lane { lane < length self.old.lanes.items }
+        requires place { (l : StoredLane) → l ≡ slice_index_or self.old.lanes.items lane l
+            → l.number < length self.old.shared.places.items }
+        ensures swapped { IsSwapped self.old lane self.new }
+        ensures back { IsSwapped self.new lane self.old }
+    {
+        self.lanes[lane as usize].swap_in_use(&mut self.shared);
+    }
+
+    /// Puts the lane in use back, where one is.
+    pub fn put_back(&mut self, used: &mut Option<u8>)
+        requires node { (w : LaneWork) × (y : SmpNode) × RestsAs self.old used.old y × IsNode w y }
+        ensures same { (y : SmpNode) → RestsAs self.old used.old y → IsSameNode y self.new }
+        ensures none { used.new ≡ None }
+    {
+        if let Some(lane) = *used {
+            self.swap_in_use(lane);
+            *used = None;
+        }
+    }
+
+    /// Puts a lane in use, where no other has reserved an address, and says whether it did. The
+    /// lane that was in use is put back.
+    #[inline(never)]
+    fn put_in_use(&mut self, used: &mut Option<u8>, lane: u8) -> bool
+        requires may { MayTurn self.old used.old lane }
+        ensures rests { (y : SmpNode) → RestsAs self.old used.old y
+            → (z : SmpNode) × RestsAs self.new used.new z × IsSameNode y z }
+        ensures used { result ≡ true → used.new ≡ Some lane }
+    {
+        self.put_back(used);
+        if !self.lanes[lane as usize].is_alone(&self.shared) {
+            return false;
+        }
+        self.swap_in_use(lane);
+        *used = Some(lane);
+        true
+    }
+
+    /// Sees to it that a lane is in use, where no other has reserved an address, and says whether
+    /// it is.
+    #[inline(always)]
+    fn use_lane(&mut self, used: &mut Option<u8>, lane: u8) -> bool
+        requires may { MayTurn self.old used.old lane }
+        ensures rests { (y : SmpNode) → RestsAs self.old used.old y
+            → (z : SmpNode) × RestsAs self.new used.new z × IsSameNode y z }
+        ensures used { result ≡ true → used.new ≡ Some lane }
+    {
+        if is_lane(*used, lane) {
+            return true;
+        }
+        self.put_in_use(used, lane)
+    }
+
+    /// The lane in use executes its next word by its micro-op, where that serves it, and says
+    /// whether it did. Otherwise nothing changes.
+    #[inline(always)]
+    fn exec_in_use(&mut self, lane: u8) -> bool
+        requires may { MayTurn self.old (Some lane) lane }
+        ensures turned { (y : SmpNode) → RestsAs self.old (Some lane) y
+            → HasTurned y lane result self.new (Some lane) }
+    {
+        self.lanes[lane as usize].exec_in_use(&mut self.shared)
+    }
+
+    /// A lane executes its next word by its micro-op, where that serves it and no other lane has
+    /// reserved an address, and says whether it did: then it stays in use. Otherwise nothing
+    /// changes, but that another lane may be in use, or none.
+    #[inline(always)]
+    pub fn turn(&mut self, used: &mut Option<u8>, lane: u8) -> bool
+        requires may { MayTurn self.old used.old lane }
+        ensures turned { (y : SmpNode) → RestsAs self.old used.old y
+            → HasTurned y lane result self.new used.new }
+    {
+        if !self.use_lane(used, lane) {
+            return false;
+        }
+        self.exec_in_use(lane)
+    }
+
     /// A lane executes its next word by its micro-op, where that serves it and no other lane has
     /// reserved an address, and says whether it did. Otherwise nothing changes.
     pub fn exec_silent(&mut self, lane: u8) -> bool
@@ -93,7 +179,10 @@ impl<'a> SmpNode<'a> {
         ensures kept { result ≡ false → (w : LaneWork) (i : ℕ)
             → node_in w i self.new ≡ node_in w i self.old }
     {
-        self.lanes[lane as usize].exec_silent(&mut self.shared)
+        let mut used = None;
+        let done = self.turn(&mut used, lane);
+        self.put_back(&mut used);
+        done
     }
 
     /// Takes a message from a node, and leaves what this one sends, in order.
@@ -227,6 +316,17 @@ fn first_lanes<'a>(alloc: Global, work: &SmpWork<'a>, me: u8) -> Result<Vec<Lane
         lanes.push_reserved(first);
     }
     Ok(lanes)
+}
+
+/// Whether the lane in use is the one with a number.
+#[inline(always)]
+fn is_lane(used: Option<u8>, lane: u8) -> bool
+    ensures { result ≡ true → used ≡ Some lane }
+{
+    match used {
+        Some(number) => number == lane,
+        None => false,
+    }
 }
 
 /// Whether a message takes something of its block away from the node.

@@ -1,16 +1,15 @@
 -- Turn by turn the order picks an event, until nothing is allowed.
-use Rattle.std.proofs.Common.{◌≡◌, ◌<◌, ◌≤◌, ap, sym, ◌∙◌, subst, List, length, IfOk, arith}
+use Rattle.std.proofs.Common.{◌≡◌, ◌≤◌, sym, ◌∙◌, subst, List, length, IfOk, arith}
 use Rattle.std.proofs.lemmas.Result.{IfOk-weaker}
-use Rattle.random_order.specs.Orders.{following}
 use Rattle.lane_model.specs.Nodes.{LaneWork}
 use Rattle.lane_model.specs.Core.{LaneEvent}
 use Rattle.lane_model.specs.Outcome.{IsLaneOutcomeOf}
 use Rattle.dsm_core.specs.declared.outcome.Outcome.{Outcome}
 use Rattle.dsm_core.specs.CoreParts.{outcome_of, work_in}
-use Rattle.smp_sim.specs.CoreParts.{IsRunTo, core_of, event_of, work_of, work_with}
+use Rattle.smp_sim.specs.CoreParts.{IsRunTo, core_of, work_of, work_with}
 use Rattle.smp_sim.specs.ByOrder.{IsLaneOutcomeByOrder}
 use Rattle.smp_sim.proofs.Choices.{over_without}
-use Rattle.smp_sim.proofs.Turns.{leads_more, none_listed, not_so_long, outcome_by_order, picked_here, picked_may}
+use Rattle.smp_sim.proofs.Turns.{none_listed, not_so_long, outcome_by_order}
 use Rattle.smp_sim.proofs.by_order.smp_simulate.Goals as goal
 
 pub outcome-requires : goal.outcome-requires
@@ -45,36 +44,23 @@ pub returns-then-is_empty-clause-interleaves : goal.returns-then-is_empty-clause
 returns-then-is_empty-clause-interleaves c = λ plan events runs run.
     c.lane_law.ensures.interleaves (work_with (work_in c.args.work.now) c.args.lanes) plan events runs run.is_run
 
-pub make-requires-clause-enabled : goal.make-requires-clause-enabled
-make-requires-clause-enabled c =
-    let l = c.loop-turn in
-    let w = work_of l.core in
-    let e = event_of c.pick-event.result in
-    picked_may w (core_of l.core) (following l.order) e
-    (picked_here w (core_of l.core) c.deref.result.now l.events.items (following l.order) e
-    c.deref.ensures.value l.invariant.listed c.pick-event.ensures.picked)
+pub returns-in_err-events-clause-interleaves : goal.returns-in_err-events-clause-interleaves
+returns-in_err-events-clause-interleaves c = λ plan events runs run.
+    c.lane_law.ensures.interleaves (work_with (work_in c.args.work.now) c.args.lanes) plan events runs run.is_run
 
-pub returns-in_err-make-clause-interleaves : goal.returns-in_err-make-clause-interleaves
-returns-in_err-make-clause-interleaves c = λ plan events runs run.
+pub returns-in_err-turns-clause-interleaves : goal.returns-in_err-turns-clause-interleaves
+returns-in_err-turns-clause-interleaves c = λ plan events runs run.
     c.lane_law.ensures.interleaves (work_with (work_in c.args.work.now) c.args.lanes) plan events runs run.is_run
 
 pub loop-turn-preserved : goal.loop-turn-preserved
 loop-turn-preserved c =
     let l = c.loop-turn in
-    let p = l.core in
-    let w = work_of p in
-    let e = event_of c.pick-event.result in
-    let made = c.in_ok-make.ensures in
-    let lanes = ap (λ (v : LaneWork). v.lanes) l.invariant.work in
-    let some : 0 < p.lanes = omega (arith, lanes, c.requires.some) in
+    let made = c.in_ok-turns.ensures in
     record {
       work = made.work ∙ l.invariant.work;
       room = subst (λ k. 272 ≤ k) (sym made.room) l.invariant.room;
       listed = made.listed;
-      leads = leads_more c.args.order l._turn l.order c.pick-event.new.order p c.make.new.core e some made.work
-          (picked_here w (core_of p) c.deref.result.now l.events.items (following l.order) e
-          c.deref.ensures.value l.invariant.listed c.pick-event.ensures.picked)
-          c.pick-event.ensures.goes_on made.run l.invariant.leads;
+      leads = made.leads c.args.order l._turn l.invariant.leads;
     }
 
 pub unreachable-requires : goal.unreachable-requires

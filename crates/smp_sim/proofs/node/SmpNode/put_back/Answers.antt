@@ -1,0 +1,16 @@
+-- What is put back is the same as what the lane in use would be put back as.
+use Rattle.std.proofs.Common.{subst}
+use Rattle.smp_sim.specs.InUse.{RestsAs}
+use Rattle.smp_sim.proofs.NodesInUse.{before_low}
+use Rattle.smp_sim.proofs.node.SmpNode.put_back.Goals as goal
+
+pub swap_in_use-requires-clause-lane : goal.swap_in_use-requires-clause-lane
+swap_in_use-requires-clause-lane c =
+    let r = c.requires.node in
+    (subst (λ o. RestsAs c.args.self.now o r.1) c.in-Some.is r.2).low
+
+pub swap_in_use-requires-clause-place : goal.swap_in_use-requires-clause-place
+swap_in_use-requires-clause-place c = λ l at.
+    let r = c.requires.node in
+    before_low r.0 c.args.self.now c.in-Some.lane r.1 l r.3
+    (subst (λ o. RestsAs c.args.self.now o r.1) c.in-Some.is r.2) at
