@@ -4,7 +4,7 @@ ghost use Rattle.std.specs.Prelude.{◌≡◌, ◌<◌, ◌≤◌, true, length,
 ghost use Rattle.debugged_run.specs.Commands.{told_of as model_told_of};
 ghost use Rattle.debugged_run.specs.Motions.{Goes, GoesFrom, Moves, behind_access, watches};
 ghost use Rattle.debugged_run.specs.Motions.{place_here as model_place, told_here as model_told};
-ghost use Rattle.debugged_run.specs.Seen.{doing_seen, register_seen};
+ghost use Rattle.debugged_run.specs.Seen.{has_ended, register_seen};
 ghost use Rattle.gdb_remote.specs.declared.request.Direction.TheVariants.{Backwards, Forwards};
 ghost use Rattle.one_memory.specs.Shown.{byte_shown};
 ghost use Rattle.time_machine.specs.Moves.{EndsBackward};
@@ -128,6 +128,17 @@ impl<'a> DebuggedRun<'a> {
         }
     }
 
+    /// Whether a processor has ended.
+    pub fn has_ended(&self, processor: u16) -> bool
+        requires { processor < self.now.run.nodes }
+        ensures { result ≡ has_ended self.now processor }
+    {
+        self.machine
+            .machine()
+            .exit(self.number(processor))
+            .is_some()
+    }
+
     /// What a command tells.
     pub fn tell(&self, alloc: Global, command: &[u8]) -> Result<Vec<u8>, AllocError>
         ensures { IfOk result (λ told. told.items ≡ model_told_of self.now command.now) }
@@ -245,17 +256,6 @@ impl<'a> DebuggedRun<'a> {
         self.machine.machine().byte(p, address)
     }
 
-    /// What processor `p` does.
-    fn doing_of(&self, p: u8) -> Doing
-        requires { p < self.now.run.nodes }
-        ensures { result ≡ doing_seen ((state_at self.now.run self.now.position).processors p) }
-    {
-        match self.machine.machine().exit(p) {
-            Some(_) => Doing::Exited,
-            None => Doing::Runs,
-        }
-    }
-
     /// The number of a processor, as the machine has it.
     fn number(&self, processor: u16) -> u8
         requires { processor < self.now.run.nodes }
@@ -270,9 +270,11 @@ impl<'a> DebuggedRun<'a> {
 impl<'a> Target for DebuggedRun<'a> {
     ghost use Rattle.debugged_run.specs.Commands.{Tells};
     ghost use Rattle.debugged_run.specs.Motions.{Moves};
-    ghost use Rattle.debugged_run.specs.Seen.{seen_from};
+    ghost use Rattle.debugged_run.specs.Seen.{Does, seen_from};
 
     ghost view = { seen_from };
+
+    ghost does = { Does };
 
     ghost moves = { Moves };
 
@@ -290,8 +292,11 @@ impl<'a> Target for DebuggedRun<'a> {
         self.byte_of(self.number(processor), address)
     }
 
-    fn doing(&self, processor: u16) -> Doing {
-        self.doing_of(self.number(processor))
+    fn doing(&mut self, _alloc: Global, processor: u16) -> Result<Doing, AllocError> {
+        if self.has_ended(processor) {
+            return Ok(Doing::Exited);
+        }
+        Ok(Doing::Runs)
     }
 
     fn go(&mut self, motion: Motion, points: &[Point]) -> Result<Stop, AllocError> {

@@ -13,7 +13,7 @@ use Rattle.gdb_remote.specs.declared.request.SessionSetting.TheVariants as setti
 use Rattle.gdb_remote.specs.declared.request.Extent.{Extent}
 use Rattle.gdb_remote.specs.declared.request.Extent.TheVariants as extent
 use Rattle.gdb_remote.specs.declared.request.DebuggerRequest.{DebuggerRequest}
-use Rattle.gdb_remote.specs.declared.request.DebuggerRequest.TheVariants.{Look, Set, Go, Monitor, Detach, Kill, Write, Malformed, Unknown}
+use Rattle.gdb_remote.specs.declared.request.DebuggerRequest.TheVariants.{Look, ThreadText, Set, Go, Monitor, Detach, Kill, Write, Malformed, Unknown}
 use Rattle.gdb_remote.specs.Hexadecimal.{number_of}
 use Rattle.gdb_remote.specs.Words.{all_words, found_word}
 
@@ -118,7 +118,7 @@ request_with word.Description rest =
     read_as (λ p. Look (look.Description p.0 p.1)) (number_pair rest)
 request_with word.Threads rest = alone rest (Look look.Threads)
 request_with word.MoreThreads rest = alone rest (Look look.MoreThreads)
-request_with word.ThreadText rest = read_as (λ t. Look (look.ThreadText t)) (thread_of rest)
+request_with word.ThreadText rest = read_as (λ t. ThreadText t) (thread_of rest)
 request_with word.IsAlive rest = read_as (λ t. Look (look.IsAlive t)) (thread_of rest)
 request_with word.CurrentThread rest = alone rest (Look look.CurrentThread)
 request_with word.Attached rest = Look look.Attached

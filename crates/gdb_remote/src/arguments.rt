@@ -198,7 +198,7 @@ pub(crate) fn thread_text_with(rest: &[u8]) -> DebuggerRequest
     ensures { result ≡ model.request_with word.ThreadText rest.now }
 {
     match thread_of(rest) {
-        Some(thread) => look(Look::ThreadText { thread }),
+        Some(thread) => DebuggerRequest::ThreadText { thread },
         None => DebuggerRequest::Malformed,
     }
 }

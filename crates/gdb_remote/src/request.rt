@@ -77,8 +77,6 @@ pub enum Look {
     Threads,
     /// The threads behind those that were told, of which there are none.
     MoreThreads,
-    /// What a thread does, in words.
-    ThreadText { thread: Thread },
     /// Whether there is such a thread.
     IsAlive { thread: Thread },
     CurrentThread,
@@ -115,6 +113,10 @@ pub enum Extent {
 pub enum DebuggerRequest {
     Look {
         look: Look,
+    },
+    /// What a thread does, in words.
+    ThreadText {
+        thread: Thread,
     },
     Set {
         setting: SessionSetting,

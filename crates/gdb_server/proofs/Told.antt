@@ -8,6 +8,7 @@ use Rattle.byte_source.specs.Sources.{Gives, SourceState}
 use Rattle.gdb_session.specs.gdb_remote.Readings.{step}
 use Rattle.gdb_session.specs.gdb_remote.declared.request.Point.{Point}
 use Rattle.gdb_session.specs.declared.session.After.TheVariants.{GoesOn}
+use Rattle.gdb_session.specs.declared.target.Doing.{Doing}
 use Rattle.gdb_session.specs.declared.target.Motion.{Motion}
 use Rattle.gdb_session.specs.declared.target.Stop.{Stop}
 use Rattle.gdb_session.specs.Servers.{Server, is_request, last_after}
@@ -62,14 +63,14 @@ abbrev pub streams : (i i_after : SourceState) (o o_after : SinkState) → Strea
 streams i i_after o o_after =
     record { input = i; input_after = i_after; output = o; output_after = o_after }
 
-module _ {T : Type 0} (view : T → View) (moves : T → Motion → List Point → Stop → T → Type 0)
+module _ {T : Type 0} (view : T → View) (does : T → ℕ → Doing → Type 0) (moves : T → Motion → List Point → Stop → T → Type 0)
     (tells : T → List ℕ → List ℕ → T → Type 0) where
   -- one byte more
   pub serves_more : (s : Standing T) (heard put : List ℕ) (m : Standing T) (byte : ℕ) (piece : List ℕ) (x : Standing T)
-      → Serves view moves tells s heard put m → Hears view moves tells m byte piece x
-      → Serves view moves tells s (heard ++ byte ∷ []) (put ++ piece) x
+      → Serves view does moves tells s heard put m → Hears view does moves tells m byte piece x
+      → Serves view does moves tells s (heard ++ byte ∷ []) (put ++ piece) x
   serves_more s [] put m byte piece x serves hears =
-      let h : Hears view moves tells s byte piece x = subst (λ (n : Standing T). Hears view moves tells n byte piece x) serves.1 hears in
+      let h : Hears view does moves tells s byte piece x = subst (λ (n : Standing T). Hears view does moves tells n byte piece x) serves.1 hears in
       (x, piece, [], h, (refl, refl), ap (λ p. p ++ piece) serves.0 ∙ sym (append-nil piece))
   serves_more s (b ∷ bs) put m byte piece x (next, first, rest, hear, serves, puts) hears = (
     next,
@@ -84,7 +85,7 @@ module _ {T : Type 0} (view : T → View) (moves : T → Motion → List Point �
   pub record IsServing (t : T) (io : Streams) (x : Standing T) (count : ℕ) : Type 0 where
     pub heard : List ℕ
     pub put : List ℕ
-    pub serves : Serves view moves tells (opening t) heard put x
+    pub serves : Serves view does moves tells (opening t) heard put x
     pub came : Gives io.input.rest heard io.input_after.rest
     pub was_put : Appends io.output.taken io.output_after.taken put
     pub as_many : length heard ≡ count
@@ -107,7 +108,7 @@ module _ {T : Type 0} (view : T → View) (moves : T → Motion → List Point �
   -- one byte more was heard
   pub goes_on : (t : T) (i i1 i2 : SourceState) (o o1 o2 : SinkState) (m x : Standing T) (count byte : ℕ)
       → IsServing t (streams i i1 o o1) m count → Gives i1.rest (byte ∷ []) i2.rest → i2.faults ≡ i1.faults
-      → HasHeard view moves tells m byte x o1 o2 → IsServing t (streams i i2 o o2) x (count + 1)
+      → HasHeard view does moves tells m byte x o1 o2 → IsServing t (streams i i2 o o2) x (count + 1)
   goes_on t i i1 i2 o o1 o2 m x count byte w gives same h = record {
     heard = w.heard ++ byte ∷ [];
     put = w.put ++ h.put;
@@ -135,7 +136,7 @@ module _ {T : Type 0} (view : T → View) (moves : T → Motion → List Point �
   }
 
   pub ends : (t : T) (io : Streams) (x : Standing T) (count : ℕ) (end : ServeEnd) (last : T) (w : IsServing t io x count)
-      → x.target ≡ last → IsEnd end x.after w.heard io.input_after.rest → HasServed view moves tells t io end last
+      → x.target ≡ last → IsEnd end x.after w.heard io.input_after.rest → HasServed view does moves tells t io end last
   ends t io x count end last w same is = record {
     heard = w.heard;
     put = w.put;
@@ -150,7 +151,7 @@ module _ {T : Type 0} (view : T → View) (moves : T → Motion → List Point �
   -- the input failed
   pub stops : (t : T) (i i1 i2 : SourceState) (o o1 : SinkState) (m : Standing T) (count : ℕ)
       → IsServing t (streams i i1 o o1) m count → i2.rest ≡ i1.rest → Rose i1.faults i2.faults
-      → Fails view moves tells t (streams i i2 o o1) Input
+      → Fails view does moves tells t (streams i i2 o o1) Input
   stops t i i1 i2 o o1 m count w same rose = (
     record {
       heard = w.heard;
@@ -166,7 +167,7 @@ module _ {T : Type 0} (view : T → View) (moves : T → Motion → List Point �
   -- a byte was heard in part
   pub is_broken : (t : T) (i i1 i2 : SourceState) (o o1 o2 : SinkState) (m : Standing T) (count byte : ℕ) (e : ServeError)
       → IsServing t (streams i i1 o o1) m count → Gives i1.rest (byte ∷ []) i2.rest
-      → BreaksOff view moves tells m byte o1 o2 e → HasBroken view moves tells t (streams i i2 o o2)
+      → BreaksOff view does moves tells m byte o1 o2 e → HasBroken view does moves tells t (streams i i2 o o2)
   is_broken t i i1 i2 o o1 o2 m count byte e w gives b = record {
     heard = w.heard;
     put = w.put;
@@ -181,7 +182,7 @@ module _ {T : Type 0} (view : T → View) (moves : T → Motion → List Point �
 
   pub breaks : (t : T) (i i1 i2 : SourceState) (o o1 o2 : SinkState) (m : Standing T) (count byte : ℕ) (e : ServeError)
       → IsServing t (streams i i1 o o1) m count → Gives i1.rest (byte ∷ []) i2.rest
-      → BreaksOff view moves tells m byte o1 o2 e → Fails view moves tells t (streams i i2 o o2) e
+      → BreaksOff view does moves tells m byte o1 o2 e → Fails view does moves tells t (streams i i2 o o2) e
   breaks t i i1 i2 o o1 o2 m count byte Input w gives b = absurd b.breaks.rises
   breaks t i i1 i2 o o1 o2 m count byte Output w gives b =
       (is_broken t i i1 i2 o o1 o2 m count byte Output w gives b, subst (λ (n : ℕ). Rose n o2.faults) w.none_broken b.breaks.rises)
@@ -189,20 +190,20 @@ module _ {T : Type 0} (view : T → View) (moves : T → Motion → List Point �
       is_broken t i i1 i2 o o1 o2 m count byte OutOfMemory w gives b
 
   with_answer : (s h : Server) (t : T) (byte : ℕ) (x : Standing T) (packet : List ℕ)
-      → h ≡ heard_by s byte → is_request (event_of s byte) ≡ true → IsAnswered view moves tells h t packet x
-      → Hears view moves tells (standing s t GoesOn) byte (put_at_once s byte ++ packet) x
+      → h ≡ heard_by s byte → is_request (event_of s byte) ≡ true → IsAnswered view does moves tells h t packet x
+      → Hears view does moves tells (standing s t GoesOn) byte (put_at_once s byte ++ packet) x
   with_answer s h t byte x packet heard asked answers = record {
     packet = packet;
     stays = refl;
     puts = refl;
-    answered = subst (λ b. IsAnsweredIf view moves tells b (heard_by s byte) t packet x) (sym asked)
-        (subst (λ (r : Server). IsAnswered view moves tells r t packet x) heard answers);
+    answered = subst (λ b. IsAnsweredIf view does moves tells b (heard_by s byte) t packet x) (sym asked)
+        (subst (λ (r : Server). IsAnswered view does moves tells r t packet x) heard answers);
   }
 
   begins_so : (s h : Server) (t : T) (byte : ℕ) (piece : List ℕ) (k : ℕ)
       → h ≡ heard_by s byte → is_request (event_of s byte) ≡ true
-      → (piece ≡ []) ⊎ ((packet : List ℕ) × (x : Standing T) × IsAnswered view moves tells h t packet x × (piece ≡ take k packet))
-      → IsBeginning view moves tells (standing s t GoesOn) byte (put_at_once s byte ++ piece)
+      → (piece ≡ []) ⊎ ((packet : List ℕ) × (x : Standing T) × IsAnswered view does moves tells h t packet x × (piece ≡ take k packet))
+      → IsBeginning view does moves tells (standing s t GoesOn) byte (put_at_once s byte ++ piece)
   begins_so s h t byte piece k heard asked (inl none) = (
     length (put_at_once s byte),
     inl (ap (λ p. put_at_once s byte ++ p) none ∙ append-nil (put_at_once s byte)
@@ -221,8 +222,8 @@ module _ {T : Type 0} (view : T → View) (moves : T → Motion → List Point �
   -- a request was heard, and its answer put, or a part of it
   pub hears_answer : (s h : Server) (t : T) (byte : ℕ) (x : Standing T) (o o1 o2 : SinkState) (piece : List ℕ)
       → h ≡ heard_by s byte → is_request (event_of s byte) ≡ true → piece ≡ put_at_once s byte
-      → HasPut o o1 piece → HasAnswered view moves tells h t x o1 o2
-      → HasHeard view moves tells (standing s t GoesOn) byte x o o2
+      → HasPut o o1 piece → HasAnswered view does moves tells h t x o1 o2
+      → HasHeard view does moves tells (standing s t GoesOn) byte x o o2
   hears_answer s h t byte x o o1 o2 piece heard asked at_once puts a = record {
     put = put_at_once s byte ++ a.packet;
     hears = with_answer s h t byte x a.packet heard asked a.answers;
@@ -235,8 +236,8 @@ module _ {T : Type 0} (view : T → View) (moves : T → Motion → List Point �
 
   pub breaks_answer : (s h : Server) (t : T) (byte : ℕ) (o o1 o2 : SinkState) (piece : List ℕ) (e : ServeError)
       → h ≡ heard_by s byte → is_request (event_of s byte) ≡ true → piece ≡ put_at_once s byte
-      → HasPut o o1 piece → BreaksAnswerOff view moves tells h t o1 o2 e
-      → BreaksOff view moves tells (standing s t GoesOn) byte o o2 e
+      → HasPut o o1 piece → BreaksAnswerOff view does moves tells h t o1 o2 e
+      → BreaksOff view does moves tells (standing s t GoesOn) byte o o2 e
   breaks_answer s h t byte o o1 o2 piece e heard asked at_once puts a = record {
     piece = put_at_once s byte ++ a.piece;
     begins = begins_so s h t byte a.piece a.k heard asked a.part;

@@ -4,6 +4,7 @@ use Rattle.dsm_io.specs.Causes.{Appends, Rose}
 use Rattle.dsm_io.specs.States.{SinkState}
 use Rattle.gdb_session.specs.gdb_remote.declared.request.Point.{Point}
 use Rattle.gdb_session.specs.declared.session.After.{After}
+use Rattle.gdb_session.specs.declared.target.Doing.{Doing}
 use Rattle.gdb_session.specs.declared.target.Motion.{Motion}
 use Rattle.gdb_session.specs.declared.target.Stop.{Stop}
 use Rattle.gdb_session.specs.Servers.{Server}
@@ -31,34 +32,34 @@ pub record IsBroken (before now : SinkState) (piece : List ℕ) (e : ServeError)
   pub takes : Appends before.taken now.taken piece
   pub rises : RisesBy e before now
 
-pub record HasAnswered {T : Type 0} (view : T → View)
+pub record HasAnswered {T : Type 0} (view : T → View) (does : T → ℕ → Doing → Type 0)
     (moves : T → Motion → List Point → Stop → T → Type 0) (tells : T → List ℕ → List ℕ → T → Type 0)
     (s : Server) (t : T) (x : Standing T) (before now : SinkState) : Type 0 where
   pub packet : List ℕ
-  pub answers : IsAnswered view moves tells s t packet x
+  pub answers : IsAnswered view does moves tells s t packet x
   pub puts : HasPut before now packet
 
 -- a part of the packet of an answer was put, or nothing
-pub record BreaksAnswerOff {T : Type 0} (view : T → View)
+pub record BreaksAnswerOff {T : Type 0} (view : T → View) (does : T → ℕ → Doing → Type 0)
     (moves : T → Motion → List Point → Stop → T → Type 0) (tells : T → List ℕ → List ℕ → T → Type 0)
     (s : Server) (t : T) (before now : SinkState) (e : ServeError) : Type 0 where
   pub k : ℕ
   pub piece : List ℕ
   pub part : (piece ≡ [])
-      ⊎ ((packet : List ℕ) × (x : Standing T) × IsAnswered view moves tells s t packet x
+      ⊎ ((packet : List ℕ) × (x : Standing T) × IsAnswered view does moves tells s t packet x
       × (piece ≡ take k packet))
   pub breaks : IsBroken before now piece e
 
-pub record HasHeard {T : Type 0} (view : T → View)
+pub record HasHeard {T : Type 0} (view : T → View) (does : T → ℕ → Doing → Type 0)
     (moves : T → Motion → List Point → Stop → T → Type 0) (tells : T → List ℕ → List ℕ → T → Type 0)
     (s : Standing T) (byte : ℕ) (x : Standing T) (before now : SinkState) : Type 0 where
   pub put : List ℕ
-  pub hears : Hears view moves tells s byte put x
+  pub hears : Hears view does moves tells s byte put x
   pub puts : HasPut before now put
 
-pub record BreaksOff {T : Type 0} (view : T → View)
+pub record BreaksOff {T : Type 0} (view : T → View) (does : T → ℕ → Doing → Type 0)
     (moves : T → Motion → List Point → Stop → T → Type 0) (tells : T → List ℕ → List ℕ → T → Type 0)
     (s : Standing T) (byte : ℕ) (before now : SinkState) (e : ServeError) : Type 0 where
   pub piece : List ℕ
-  pub begins : IsBeginning view moves tells s byte piece
+  pub begins : IsBeginning view does moves tells s byte piece
   pub breaks : IsBroken before now piece e

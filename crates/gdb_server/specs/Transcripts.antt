@@ -6,6 +6,7 @@ use Rattle.gdb_session.specs.gdb_remote.Readings.{new_reading, step}
 use Rattle.gdb_session.specs.gdb_remote.Requests.{request_of}
 use Rattle.gdb_session.specs.declared.session.After.{After}
 use Rattle.gdb_session.specs.declared.session.After.TheVariants.{GoesOn}
+use Rattle.gdb_session.specs.declared.target.Doing.{Doing}
 use Rattle.gdb_session.specs.declared.target.Motion.{Motion}
 use Rattle.gdb_session.specs.declared.target.Stop.{Stop}
 use Rattle.gdb_session.specs.Answers.{AnswersRequest, after_request}
@@ -44,11 +45,11 @@ abbrev pub put_at_once : Server → (byte : ℕ) → List ℕ
 put_at_once s byte = put_for s.session s.last (event_of s byte)
 
 -- the request that was read last is answered by this packet
-pub record IsAnswered {T : Type 0} (view : T → View)
+pub record IsAnswered {T : Type 0} (view : T → View) (does : T → ℕ → Doing → Type 0)
     (moves : T → Motion → List Point → Stop → T → Type 0) (tells : T → List ℕ → List ℕ → T → Type 0)
     (s : Server) (t : T) (packet : List ℕ) (x : Standing T) : Type 0 where
   pub answer : List ℕ
-  pub answers : AnswersRequest view moves tells
+  pub answers : AnswersRequest view does moves tells
       (record {
         session = s.session;
         target = t;
@@ -63,30 +64,30 @@ pub record IsAnswered {T : Type 0} (view : T → View)
   pub last_is : x.server.last ≡ last_behind x.after s.last answer
 
 -- the packet of an answer, if a request was read
-abbrev pub IsAnsweredIf : {T : Type 0} → (T → View)
+abbrev pub IsAnsweredIf : {T : Type 0} → (T → View) → (T → ℕ → Doing → Type 0)
     → (T → Motion → List Point → Stop → T → Type 0) → (T → List ℕ → List ℕ → T → Type 0)
     → Bool → Server → T → (packet : List ℕ) → Standing T → Type 0
-IsAnsweredIf view moves tells true s t packet x = IsAnswered view moves tells s t packet x
-IsAnsweredIf view moves tells false s t packet x =
+IsAnsweredIf view does moves tells true s t packet x = IsAnswered view does moves tells s t packet x
+IsAnsweredIf view does moves tells false s t packet x =
     (packet ≡ []) × (x ≡ record { server = s; target = t; after = GoesOn })
 
 -- a byte comes while the debugger stays: what is put at once, and the packet of the answer
-pub record Hears {T : Type 0} (view : T → View)
+pub record Hears {T : Type 0} (view : T → View) (does : T → ℕ → Doing → Type 0)
     (moves : T → Motion → List Point → Stop → T → Type 0) (tells : T → List ℕ → List ℕ → T → Type 0)
     (s : Standing T) (byte : ℕ) (put : List ℕ) (x : Standing T) : Type 0 where
   pub packet : List ℕ
   pub stays : s.after ≡ GoesOn
   pub puts : put ≡ put_at_once s.server byte ++ packet
-  pub answered : IsAnsweredIf view moves tells (is_request (event_of s.server byte))
+  pub answered : IsAnsweredIf view does moves tells (is_request (event_of s.server byte))
       (heard_by s.server byte) s.target packet x
 
 -- A transcript: this is put for these bytes, from one standing to another.
-abbrev pub Serves : {T : Type 0} → (T → View)
+abbrev pub Serves : {T : Type 0} → (T → View) → (T → ℕ → Doing → Type 0)
     → (T → Motion → List Point → Stop → T → Type 0) → (T → List ℕ → List ℕ → T → Type 0)
     → Standing T → (heard put : List ℕ) → Standing T → Type 0
-Serves view moves tells s [] put x = (put ≡ []) × (x ≡ s)
-Serves view moves tells s (byte ∷ bytes) put x =
+Serves view does moves tells s [] put x = (put ≡ []) × (x ≡ s)
+Serves view does moves tells s (byte ∷ bytes) put x =
     (next : Standing _) × (first : List ℕ) × (rest : List ℕ)
-    × Hears view moves tells s byte first next
-    × Serves view moves tells next bytes rest x
+    × Hears view does moves tells s byte first next
+    × Serves view does moves tells next bytes rest x
     × (put ≡ first ++ rest)

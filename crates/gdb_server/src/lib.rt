@@ -65,14 +65,14 @@ pub fn serve<T: Target, S: Source, O: Sink>(
     source: &mut S,
     out: &mut O,
 ) -> Result<ServeEnd, ServeError>
-    ensures served { IfOk result (λ end. HasServed T.view T.moves T.tells target.old
+    ensures served { IfOk result (λ end. HasServed T.view T.does T.moves T.tells target.old
         (record {
           input = S.state source.old;
           input_after = S.state source.new;
           output = O.state out.old;
           output_after = O.state out.new;
         }) end target.new) }
-    ensures fails { IfErr result (Fails T.view T.moves T.tells target.old
+    ensures fails { IfErr result (Fails T.view T.does T.moves T.tells target.old
         (record {
           input = S.state source.old;
           input_after = S.state source.new;
@@ -103,10 +103,10 @@ fn hear<T: Target, O: Sink>(
     byte: u8,
     out: &mut O,
 ) -> Result<After, ServeError>
-    ensures hears { IfOk result (λ after. HasHeard T.view T.moves T.tells
+    ensures hears { IfOk result (λ after. HasHeard T.view T.does T.moves T.tells
         (standing server.old target.old After.GoesOn) byte
         (standing server.new target.new after) (O.state out.old) (O.state out.new)) }
-    ensures breaks { IfErr result (BreaksOff T.view T.moves T.tells
+    ensures breaks { IfErr result (BreaksOff T.view T.does T.moves T.tells
         (standing server.old target.old After.GoesOn) byte (O.state out.old) (O.state out.new)) }
 {
     let mut piece = Vec::new(alloc);
@@ -125,10 +125,11 @@ fn answer<T: Target, O: Sink>(
     target: &mut T,
     out: &mut O,
 ) -> Result<After, ServeError>
-    ensures answers { IfOk result (λ after. HasAnswered T.view T.moves T.tells server.old target.old
+    ensures answers { IfOk result (λ after. HasAnswered T.view T.does T.moves T.tells
+        server.old target.old
         (standing server.new target.new after) (O.state out.old) (O.state out.new)) }
-    ensures breaks { IfErr result (BreaksAnswerOff T.view T.moves T.tells server.old target.old
-        (O.state out.old) (O.state out.new)) }
+    ensures breaks { IfErr result (BreaksAnswerOff T.view T.does T.moves T.tells
+        server.old target.old (O.state out.old) (O.state out.new)) }
 {
     let mut packet = Vec::new(alloc);
     let after = server.answer(alloc, target, &mut packet)?;

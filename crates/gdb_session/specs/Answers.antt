@@ -4,15 +4,16 @@ use Rattle.gdb_remote.specs.declared.request.Point.{Point}
 use Rattle.gdb_remote.specs.declared.request.Direction.{Direction}
 use Rattle.gdb_remote.specs.declared.request.Extent.{Extent}
 use Rattle.gdb_remote.specs.declared.request.DebuggerRequest.{DebuggerRequest}
-use Rattle.gdb_remote.specs.declared.request.DebuggerRequest.TheVariants.{Look, Set, Go, Monitor, Detach, Kill, Write, Malformed, Unknown}
+use Rattle.gdb_remote.specs.declared.request.DebuggerRequest.TheVariants.{Look, ThreadText, Set, Go, Monitor, Detach, Kill, Write, Malformed, Unknown}
 use Rattle.gdb_session.specs.declared.session.After.{After}
 use Rattle.gdb_session.specs.declared.session.After.TheVariants.{GoesOn, Leaves, IsKilled}
+use Rattle.gdb_session.specs.declared.target.Doing.{Doing}
 use Rattle.gdb_session.specs.declared.target.Motion.{Motion}
 use Rattle.gdb_session.specs.declared.target.MotionReach.{MotionReach}
 use Rattle.gdb_session.specs.declared.target.Stop.{Stop}
-use Rattle.gdb_remote.specs.Hexadecimal.{bytes_of}
+use Rattle.gdb_remote.specs.Hexadecimal.{bytes_digits, bytes_of}
 use Rattle.gdb_session.specs.Views.{View}
-use Rattle.gdb_session.specs.Sessions.{Session, refused, read_only, done, look_text, setting_text, after_setting, reach_among, stopped, stop_text, told_text}
+use Rattle.gdb_session.specs.Sessions.{Session, refused, read_only, done, doing_text, look_text, setting_text, after_setting, processor_among, reach_among, stopped, stop_text, told_text}
 
 -- a session and a run, before a request and after it, and the answer
 pub record Exchange (T : Type 0) : Type 0 where
@@ -26,6 +27,13 @@ pub record Exchange (T : Type 0) : Type 0 where
 abbrev pub Stands : {T : Type 0} → Exchange T → Session → List ℕ → Type 0
 Stands x session answer =
     (x.answer ≡ answer) × (x.session_after ≡ session) × (x.target_after ≡ x.target)
+
+-- what a processor does is told, if there is such a one
+abbrev pub TellsDoing : {T : Type 0} → (T → ℕ → Doing → Type 0) → T → Option ℕ
+    → (answer : List ℕ) → Type 0
+TellsDoing does t None answer = answer ≡ refused
+TellsDoing does t (Some p) answer =
+    (d : Doing) × does t p d × (answer ≡ bytes_digits (doing_text d))
 
 -- the run goes on, if the processor is one that there is
 abbrev pub GoesSo : {T : Type 0} → (T → Motion → List Point → Stop → T → Type 0) → Exchange T
@@ -49,23 +57,26 @@ Tells tells t (Some command) t' answer =
     (told : List ℕ) × tells t command told t' × (answer ≡ told_text told)
 
 -- a request whose packet has this body is answered
-abbrev pub AnswersRequest : {T : Type 0} → (T → View)
+abbrev pub AnswersRequest : {T : Type 0} → (T → View) → (T → ℕ → Doing → Type 0)
     → (T → Motion → List Point → Stop → T → Type 0) → (T → List ℕ → List ℕ → T → Type 0)
     → Exchange T → List ℕ → DebuggerRequest → Type 0
-AnswersRequest view moves tells x body (Look l) =
+AnswersRequest view does moves tells x body (Look l) =
     Stands x x.session (look_text x.session (view x.target) l)
-AnswersRequest view moves tells x body (Set s) =
+AnswersRequest view does moves tells x body (ThreadText t) =
+    TellsDoing does x.target (processor_among (view x.target).processors t) x.answer
+    × (x.session_after ≡ x.session) × (x.target_after ≡ x.target)
+AnswersRequest view does moves tells x body (Set s) =
     Stands x (after_setting x.session (view x.target).processors s)
     (setting_text x.session (view x.target).processors s)
-AnswersRequest view moves tells x body (Go d e) = Goes view moves x d e
-AnswersRequest view moves tells x body Monitor =
+AnswersRequest view does moves tells x body (Go d e) = Goes view moves x d e
+AnswersRequest view does moves tells x body Monitor =
     Tells tells x.target (bytes_of (drop 6 body)) x.target_after x.answer
     × (x.session_after ≡ x.session)
-AnswersRequest view moves tells x body Detach = Stands x x.session done
-AnswersRequest view moves tells x body Kill = Stands x x.session []
-AnswersRequest view moves tells x body Write = Stands x x.session read_only
-AnswersRequest view moves tells x body Malformed = Stands x x.session refused
-AnswersRequest view moves tells x body Unknown = Stands x x.session []
+AnswersRequest view does moves tells x body Detach = Stands x x.session done
+AnswersRequest view does moves tells x body Kill = Stands x x.session []
+AnswersRequest view does moves tells x body Write = Stands x x.session read_only
+AnswersRequest view does moves tells x body Malformed = Stands x x.session refused
+AnswersRequest view does moves tells x body Unknown = Stands x x.session []
 
 -- whether the debugger stays
 abbrev pub after_request : DebuggerRequest → After

@@ -10,7 +10,7 @@ use Rattle.gdb_remote.specs.declared.request.Point.{Point}
 use Rattle.gdb_remote.specs.declared.request.Extent.{Extent}
 use Rattle.gdb_remote.specs.declared.request.Extent.TheVariants as extent
 use Rattle.gdb_remote.specs.declared.request.Look.{Look}
-use Rattle.gdb_remote.specs.declared.request.Look.TheVariants.{Status, Registers, Register, Memory, Features, Description, Threads, MoreThreads, ThreadText, IsAlive, CurrentThread, Attached, Actions}
+use Rattle.gdb_remote.specs.declared.request.Look.TheVariants.{Status, Registers, Register, Memory, Features, Description, Threads, MoreThreads, IsAlive, CurrentThread, Attached, Actions}
 use Rattle.gdb_remote.specs.declared.request.SessionSetting.{SessionSetting}
 use Rattle.gdb_remote.specs.declared.request.SessionSetting.TheVariants.{Choose, ChooseToMove, SetPoint, ClearPoint, NoAcknowledgements}
 use Rattle.gdb_session.specs.declared.target.Doing.{Doing}
@@ -120,17 +120,17 @@ doing_text Runs = codes "stopped"
 doing_text Exited = codes "exited"
 doing_text (Waits block) = codes "waits for block " ++ decimal block
 
+-- the processor of a thread, if there is such a one
+abbrev pub processor_among : (processors : ℕ) → Thread → Option ℕ
+processor_among n All = None
+processor_among n Any = None
+processor_among n (Of p) = if nat_lt p n then Some p else None
+
 -- whether there is the processor of a thread
 abbrev pub alive_text : View → Thread → List ℕ
 alive_text v All = refused
 alive_text v Any = refused
 alive_text v (Of p) = if nat_lt p v.processors then done else refused
-
-abbrev pub thread_text : View → Thread → List ℕ
-thread_text v All = refused
-thread_text v Any = refused
-thread_text v (Of p) =
-    if nat_lt p v.processors then bytes_digits (doing_text (v.doing p)) else refused
 
 -- why a run stopped, behind the number of the thread
 abbrev pub why_text : Why → List ℕ
@@ -187,7 +187,6 @@ look_text s v Features = features
 look_text s v (Description offset n) = piece offset n description
 look_text s v Threads = threads_below v.processors
 look_text s v MoreThreads = codes "l"
-look_text s v (ThreadText t) = thread_text v t
 look_text s v (IsAlive t) = alive_text v t
 look_text s v CurrentThread = codes "QC" ++ thread_digits s.general
 look_text s v Attached = codes "1"

@@ -7,7 +7,7 @@ ghost use Rattle.gdb_session.specs.Sessions as model;
 use crate::description::push_description;
 use crate::session::Session;
 use crate::target::{PC, Target};
-use crate::telling::{push_doing, push_stop, push_thread, push_threads};
+use crate::telling::{push_stop, push_thread, push_threads};
 use gdb_remote::{Look, Thread, push_bytes};
 use std::alloc::{AllocError, Global};
 
@@ -34,7 +34,6 @@ pub(crate) fn push_look<T: Target>(
         Look::Description { offset, length } => push_description(alloc, out, offset, length),
         Look::Threads => push_threads(out, target.processors()),
         Look::MoreThreads => out.extend_from_slice(b"l"),
-        Look::ThreadText { thread } => push_thread_text(alloc, out, target, thread),
         Look::IsAlive { thread } => push_is_alive(out, target, thread),
         Look::CurrentThread => {
             out.extend_from_slice(b"QC")?;
@@ -203,26 +202,6 @@ fn byte_at<T: Target>(target: &T, processor: u16, address: u64) -> Option<u8>
         return None;
     }
     target.byte(processor, address as u32)
-}
-
-/// Appends what a thread does, in words.
-fn push_thread_text<T: Target>(
-    alloc: Global,
-    out: &mut Vec<u8>,
-    target: &T,
-    thread: Thread,
-) -> Result<(), AllocError>
-    ensures { OnOk result
-        (out.new.items ≡ out.old.items ++ model.thread_text (T.view target.now) thread) }
-{
-    match thread {
-        Thread::Of { processor } if processor < target.processors() => {
-            let mut text = Vec::new(alloc);
-            push_doing(&mut text, target.doing(processor))?;
-            push_bytes(out, &text)
-        }
-        _ => out.extend_from_slice(b"E01"),
-    }
 }
 
 /// Appends whether there is such a thread.

@@ -122,7 +122,7 @@ impl Server {
     ) -> Result<After, AllocError>
         ensures reading { OnOk result (self.new.reading ≡ self.old.reading) }
         ensures answers { IfOk result (λ after. (answer : List ℕ)
-            × AnswersRequest T.view T.moves T.tells
+            × AnswersRequest T.view T.does T.moves T.tells
             (record {
               session = self.old.session;
               target = target.old;

@@ -1,14 +1,15 @@
 //! A session: one answer to each request.
 
-ghost use Rattle.std.specs.Prelude.{◌≡◌, ◌++◌, [], drop, option_map, OnOk, IfOk};
-ghost use Rattle.gdb_session.specs.Answers.{AnswersRequest, Goes, GoesSo, Tells, after_request};
+ghost use Rattle.std.specs.Prelude.{◌≡◌, ◌++◌, ◌<◌, [], drop, option_map, OnOk, IfOk, IfSome};
+ghost use Rattle.gdb_session.specs.Answers.{AnswersRequest, Goes, GoesSo, Tells, TellsDoing};
+ghost use Rattle.gdb_session.specs.Answers.{after_request};
 ghost use Rattle.gdb_remote.specs.Hexadecimal.{bytes_of};
 ghost use Rattle.gdb_remote.specs.Requests.{request_of};
 ghost use Rattle.gdb_session.specs.Sessions as model;
 
 use crate::look::push_look;
 use crate::target::{Motion, MotionReach, Stop, Target, Why};
-use crate::telling::push_stop;
+use crate::telling::{push_doing, push_stop};
 use gdb_remote::{
     DebuggerRequest, Direction, Extent, Point, PointKind, SessionSetting, Thread, bytes_of,
     push_bytes, request_of,
@@ -94,7 +95,7 @@ impl Session {
         out: &mut Vec<u8>,
     ) -> Result<After, AllocError>
         requires empty { out.old.items ≡ [] }
-        ensures answers { OnOk result (AnswersRequest T.view T.moves T.tells
+        ensures answers { OnOk result (AnswersRequest T.view T.does T.moves T.tells
             (record {
               session = self.old;
               target = target.old;
@@ -118,7 +119,7 @@ impl Session {
         out: &mut Vec<u8>,
     ) -> Result<After, AllocError>
         requires empty { out.old.items ≡ [] }
-        ensures answers { OnOk result (AnswersRequest T.view T.moves T.tells
+        ensures answers { OnOk result (AnswersRequest T.view T.does T.moves T.tells
             (record {
               session = self.old;
               target = target.old;
@@ -131,6 +132,10 @@ impl Session {
         match request {
             DebuggerRequest::Look { look } => {
                 push_look(alloc, self, target, look, out)?;
+                Ok(After::GoesOn)
+            }
+            DebuggerRequest::ThreadText { thread } => {
+                tell_thread(alloc, target, thread, out)?;
                 Ok(After::GoesOn)
             }
             DebuggerRequest::Set { setting } => {
@@ -317,6 +322,43 @@ impl Session {
     }
 }
 
+/// Tells what a thread does, in words.
+fn tell_thread<T: Target>(
+    alloc: Global,
+    target: &mut T,
+    thread: Thread,
+    out: &mut Vec<u8>,
+) -> Result<(), AllocError>
+    requires empty { out.old.items ≡ [] }
+    ensures tells { OnOk result (TellsDoing T.does target.old
+        (model.processor_among (T.view target.old).processors thread) out.new.items) }
+    ensures same { OnOk result (target.new ≡ target.old) }
+{
+    let processor = processor_among(target.processors(), thread);
+    tell_doing(alloc, target, processor, out)
+}
+
+/// Tells what a processor does, in words, if there is such a one.
+fn tell_doing<T: Target>(
+    alloc: Global,
+    target: &mut T,
+    processor: Option<u16>,
+    out: &mut Vec<u8>,
+) -> Result<(), AllocError>
+    requires empty { out.old.items ≡ [] }
+    requires within { IfSome processor (λ p. p < (T.view target.old).processors) }
+    ensures tells { OnOk result (TellsDoing T.does target.old processor out.new.items) }
+    ensures same { OnOk result (target.new ≡ target.old) }
+{
+    let Some(processor) = processor else {
+        return out.extend_from_slice(b"E01");
+    };
+    let doing = target.doing(alloc, processor)?;
+    let mut text = Vec::new(alloc);
+    push_doing(&mut text, doing)?;
+    push_bytes(out, &text)
+}
+
 /// Does the command of a packet's body.
 fn command<T: Target>(
     alloc: Global,
@@ -377,6 +419,17 @@ fn is_choice(processors: u16, thread: Thread) -> bool
     match thread {
         Thread::All | Thread::Any => true,
         Thread::Of { processor } => processor < processors,
+    }
+}
+
+/// The processor of a thread, if there is such a one.
+fn processor_among(processors: u16, thread: Thread) -> Option<u16>
+    ensures value { result ≡ model.processor_among processors thread }
+    ensures within { IfSome result (λ p. p < processors) }
+{
+    match thread {
+        Thread::Of { processor } if processor < processors => Some(processor),
+        Thread::All | Thread::Any | Thread::Of { .. } => None,
     }
 }
 

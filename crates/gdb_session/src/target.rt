@@ -1,8 +1,9 @@
 //! What a session is about: a run of processors, seen from where it stands.
 
-ghost use Rattle.std.specs.Prelude.{◌≡◌, ◌<◌, ℕ, List, IfOk};
+ghost use Rattle.std.specs.Prelude.{◌≡◌, ◌<◌, ℕ, List, IfOk, OnOk};
 ghost use Rattle.gdb_session.specs.Views.{View};
 ghost use Rattle.gdb_remote.specs.declared.request.Point.{Point as Points};
+ghost use Rattle.gdb_session.specs.declared.target.Doing.{Doing as Doings};
 ghost use Rattle.gdb_session.specs.declared.target.Motion.{Motion as Motions};
 ghost use Rattle.gdb_session.specs.declared.target.Stop.{Stop as Stops};
 
@@ -67,6 +68,9 @@ pub trait Target {
     /// What is seen of the run.
     ghost view: { Self → View };
 
+    /// Whether a processor does this, where the run stands.
+    ghost does: { Self → ℕ → Doings → Type 0 };
+
     /// Whether a motion, among these points, goes from one place of the run to another, and stops
     /// there so.
     ghost moves: { Self → Motions → List Points → Stops → Self → Type 0 };
@@ -90,9 +94,10 @@ pub trait Target {
         ensures { result ≡ (view self.now).byte processor address };
 
     /// What a processor does.
-    fn doing(&self, processor: u16) -> Doing
-        requires { processor < (view self.now).processors }
-        ensures { result ≡ (view self.now).doing processor };
+    fn doing(&mut self, alloc: Global, processor: u16) -> Result<Doing, AllocError>
+        requires { processor < (view self.old).processors }
+        ensures does { IfOk result (λ doing. does self.old processor doing) }
+        ensures same { OnOk result (self.new ≡ self.old) };
 
     /// Goes on, and says where it stopped, and why.
     fn go(&mut self, motion: Motion, points: &[Point]) -> Result<Stop, AllocError>

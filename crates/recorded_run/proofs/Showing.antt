@@ -1,5 +1,5 @@
 -- A recorded run that is shown, and the walk that it keeps.
-use Rattle.std.proofs.Common.{◌≡◌, ℕ, true, List, [], ◌∷◌, ◌++◌, length, Option, Some, None, refl, sym, ap, ◌∙◌, subst, inl, inr, append_assoc}
+use Rattle.std.proofs.Common.{◌≡◌, ℕ, ◌<◌, true, List, [], ◌∷◌, ◌++◌, length, Option, Some, None, refl, sym, ap, ◌∙◌, subst, inl, inr, append_assoc}
 use Rattle.std.specs.Prelude.{is_some}
 use Rattle.block_layout.specs.Layout.{Shape}
 use Rattle.templates.specs.declared.code.CodeWord.{CodeWord}
@@ -58,12 +58,14 @@ nodes_of w = core_of (parts_of w)
 
 pub holds_at_start : (run : Run) (stand : Stand) (asked : Asked) (plan : List PlanEntry) (code : List CodeWord) (kept : Record)
     → stand ≡ record { run = run; position = 0 } → run.program ≡ asked.program.now → run.layout ≡ asked.layout.now
+    → run.nodes ≡ asked.layout.now.nodes
     → StandsFor (work_in asked) plan kept run.picks → HasCode (work_in asked).program code → IsRecord kept
     → asked.layout.now.nodes ≡ kept.nodes → HoldsTogether stand asked plan code kept None None
-holds_at_start run stand asked plan code kept is program layout stands has_code is_record nodes =
+holds_at_start run stand asked plan code kept is program layout as_many stands has_code is_record nodes =
     subst (λ (s : Stand). HoldsTogether s asked plan code kept None None) (sym is) (record {
       program = program;
       layout = layout;
+      as_many = as_many;
       stands = stands;
       has_code = has_code;
       is_record = is_record;
@@ -91,6 +93,9 @@ module _ (stand : Stand) (asked : Asked) (plan : List PlanEntry) (code : List Co
   same_work =
       ap (λ e. work_with e asked.image.now stand.run.layout asked.budget) h.program
       ∙ ap (λ (l : Shape). work_with asked.program.now asked.image.now l asked.budget) h.layout
+
+  pub as_many_nodes : stand.run.nodes ≡ stand.run.layout.nodes
+  as_many_nodes = h.as_many ∙ sym (ap (λ (l : Shape). l.nodes) h.layout)
 
   pub along_shown : (w : Walk) → IsAlong (work_in asked) plan kept w → IsAlongShown shown w
   along_shown w a = record { work_is = a.work_is ∙ sym same_work; plan_is = a.plan_is; rec_is = a.rec_is }
@@ -133,6 +138,7 @@ module _ (stand : Stand) (asked : Asked) (plan : List PlanEntry) (code : List Co
   holds_with w b is there = record {
     program = h.program;
     layout = h.layout;
+    as_many = h.as_many;
     stands = h.stands;
     has_code = h.has_code;
     is_record = h.is_record;
@@ -157,6 +163,7 @@ module _ (stand : Stand) (asked : Asked) (plan : List PlanEntry) (code : List Co
   holds_moved other same = record {
     program = ap (λ (r : Run). r.program) same ∙ h.program;
     layout = ap (λ (r : Run). r.layout) same ∙ h.layout;
+    as_many = ap (λ (r : Run). r.nodes) same ∙ h.as_many;
     stands = subst (λ (r : Run). StandsFor (work_in asked) plan kept r.picks) (sym same) h.stands;
     has_code = h.has_code;
     is_record = h.is_record;
@@ -201,6 +208,13 @@ looks s t w text told h is same = (h.seen, nodes_of w, are_shown s w h, is, same
 -- the blocks of its nodes are those of the run
 pub same_layout : (s : Recorded) (w : Walk) → IsAlongShown s w → (parts_of w).layout ≡ s.stand.run.layout
 same_layout s w along = ap (λ (x : Work). x.layout) along.work_is
+
+-- each processor has a node
+pub node_there : (s : Recorded) (w : Walk) (p : ℕ) (parts : CoreParts) → parts ≡ parts_of w → IsAlongShown s w
+    → s.stand.run.nodes ≡ s.stand.run.layout.nodes → p < s.stand.run.nodes → p < parts.layout.nodes
+node_there s w p parts is along same low =
+    subst (λ n. p < n)
+    (same ∙ ap (λ (l : Shape). l.nodes) (sym (ap (λ (x : CoreParts). x.layout) is ∙ same_layout s w along))) low
 
 -- the walk that was taken is kept again, and the run is as it was
 pub kept_again : (s t u : Recorded) (b : Option LastEvent) → t ≡ behind_none s → u ≡ record t { behind = b } → b ≡ s.behind → u ≡ s

@@ -1,5 +1,5 @@
 -- What is told of nodes and blocks.
-use Rattle.std.specs.Prelude.{ℕ, zero, suc, nat_lt, if◌then◌else◌, List, [], ◌++◌, Option, Some, None, codes}
+use Rattle.std.specs.Prelude.{◌≡◌, ℕ, ◌<◌, zero, suc, nat_lt, true, false, if◌then◌else◌, List, [], ◌++◌, Option, Some, None, is_some, codes}
 use Rattle.std.specs.Fmt.{decimal}
 use Rattle.block_layout.specs.Layout.{Shape, blocks, home}
 use Rattle.state_table.specs.declared.State.{State}
@@ -13,6 +13,8 @@ use Rattle.node_model.specs.declared.Standing.TheVariants as standing
 use Rattle.node_model.specs.Node.{Node, Work, standing_of}
 use Rattle.node_model.specs.Turns.{block_at}
 use Rattle.node_model.specs.Core.{Core}
+use Rattle.debugged_run.specs.gdb_session.declared.target.Doing.{Doing}
+use Rattle.debugged_run.specs.gdb_session.declared.target.Doing.TheVariants.{Runs, Exited, Waits}
 use Rattle.event_text.specs.Names.{state_name, need_name}
 use Rattle.event_text.specs.Parts.{text_if}
 
@@ -69,6 +71,21 @@ no_node_text i nodes =
 abbrev pub node_text_if : Work → Core → (i : ℕ) → List ℕ
 node_text_if work c i =
     if nat_lt i work.layout.nodes then node_text work c i else no_node_text i work.layout.nodes
+
+-- a node waits for this block, and for none before it
+pub record IsFirstWait (n : Node) (b : ℕ) : Type 0 where
+  pub waits : is_some (n.wait b) ≡ true
+  pub first : (a : ℕ) → a < b → is_some (n.wait a) ≡ false
+
+-- it waits for no block
+abbrev pub HasNoWait : Shape → Node → Type 0
+HasNoWait layout n = (b : ℕ) → b < blocks layout → is_some (n.wait b) ≡ false
+
+-- what a node does: it waits, which is told by the first block, or it runs
+abbrev pub NodeDoes : Work → Node → Doing → Type 0
+NodeDoes work n (Waits b) = (standing_of work n ≡ standing.Waiting) × IsFirstWait n b
+NodeDoes work n Runs = standing_of work n ≡ standing.Waiting → HasNoWait work.layout n
+NodeDoes work n Exited = ⊥
 
 -- 2. A block
 

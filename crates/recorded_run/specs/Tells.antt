@@ -8,6 +8,8 @@ use Rattle.event_text.specs.run_trace.Traced.{What, Word, Taken, Traced}
 use Rattle.event_text.specs.Events.{event_line}
 use Rattle.event_text.specs.Shown.{has_wants}
 use Rattle.debugged_run.specs.gdb_session.gdb_remote.declared.request.Point.{Point}
+use Rattle.debugged_run.specs.gdb_session.declared.target.Doing.{Doing}
+use Rattle.debugged_run.specs.gdb_session.declared.target.Doing.TheVariants.{Exited}
 use Rattle.debugged_run.specs.gdb_session.declared.target.Motion.{Motion}
 use Rattle.debugged_run.specs.gdb_session.declared.target.Stop.{Stop}
 use Rattle.debugged_run.specs.time_machine.declared.stops.StopPoint.{StopPoint}
@@ -18,11 +20,12 @@ use Rattle.debugged_run.specs.time_machine.Stand.{state_at}
 use Rattle.debugged_run.specs.Commands.{where_text}
 use Rattle.debugged_run.specs.Motions as of_run
 use Rattle.debugged_run.specs.Motions.{mover_at}
+use Rattle.debugged_run.specs.Seen.{has_ended}
 use Rattle.recorded_run.specs.declared.command.Command.{Command}
 use Rattle.recorded_run.specs.declared.command.Command.TheVariants.{Where, Output, Node, Block, Miss, BackToWrite, Unknown}
 use Rattle.recorded_run.specs.declared.walk.LastEvent.{LastEvent}
 use Rattle.recorded_run.specs.Commands.{command_of}
-use Rattle.recorded_run.specs.Nodes.{node_text_if, block_text_if}
+use Rattle.recorded_run.specs.Nodes.{NodeDoes, node_text_if, block_text_if}
 use Rattle.recorded_run.specs.Shown.{Recorded, AreFirst, AreShown, work_shown, picks_made, name_of, last_of}
 
 -- 1. The texts
@@ -134,3 +137,18 @@ Tells s text told t = TellsAs s (command_of text) told t
 abbrev pub Moves : Recorded → Motion → List Point → Stop → Recorded → Type 0
 Moves s m points told t =
     of_run.Moves s.stand m points told t.stand × (t ≡ record s { stand = t.stand; behind = None })
+
+-- 5. What processors do
+
+-- a processor does what its node does, of the nodes that are shown
+abbrev pub DoesAsNode : Recorded → (processor : ℕ) → Doing → Type 0
+DoesAsNode s p d =
+    (seen : List Traced) × (c : Core) × AreShown s seen c × NodeDoes (work_shown s) (c.nodes p) d
+
+-- but for one that has ended
+abbrev pub DoesUnless : (ended : Bool) → Recorded → (processor : ℕ) → Doing → Type 0
+DoesUnless true s p d = d ≡ Exited
+DoesUnless false s p d = DoesAsNode s p d
+
+abbrev pub Does : Recorded → (processor : ℕ) → Doing → Type 0
+Does s p d = DoesUnless (has_ended s.stand p) s p d

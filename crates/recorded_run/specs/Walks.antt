@@ -118,6 +118,7 @@ pub record HoldsTogether (stand : Stand) (asked : Asked) (plan : List PlanEntry)
   where
     pub program : stand.run.program ≡ asked.program.now
     pub layout : stand.run.layout ≡ asked.layout.now
+    pub as_many : stand.run.nodes ≡ asked.layout.now.nodes
     pub stands : StandsFor (work_in asked) plan kept stand.run.picks
     pub has_code : HasCode (work_in asked).program code
     pub is_record : IsRecord kept

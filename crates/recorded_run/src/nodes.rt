@@ -1,7 +1,8 @@
 //! What is told of nodes and blocks.
 
-ghost use Rattle.std.specs.Prelude.{◌≡◌, ◌++◌, ◌<◌, IfOk, OnOk};
+ghost use Rattle.std.specs.Prelude.{◌≡◌, ◌++◌, ◌<◌, IfOk, MatchOption, OnOk};
 ghost use Rattle.block_layout.specs.Layout.{blocks};
+ghost use Rattle.node_model.specs.Node.{standing_of};
 ghost use Rattle.node_model.specs.Turns.{block_at};
 ghost use Rattle.event_text.specs.replay.dsm_core.CoreParts.{core_of, work_of};
 ghost use Rattle.event_text.specs.node_machine.NodeState.{node_of, work_of as work_at};
@@ -9,6 +10,7 @@ ghost use Rattle.event_text.specs.node_machine.Wanted.{block_with};
 ghost use Rattle.recorded_run.specs.Nodes as model;
 
 use block_layout::{Block, Layout, layout_law};
+use debugged_run::gdb_session::Doing;
 use event_text::node_machine::Node;
 use event_text::run_trace::replay::dsm_core::Core;
 use event_text::{need_name, push_decimal, push_if, state_name};
@@ -141,6 +143,45 @@ fn push_due(out: &mut Vec<u8>, answer: &Option<Answer>) -> Result<(), AllocError
         }
         None => Ok(()),
     }
+}
+
+/// What the node of a processor does.
+pub(crate) fn doing_of(core: &Core<'_>, processor: u16) -> Doing
+    requires { processor < core.now.layout.nodes }
+    ensures { model.NodeDoes (work_of core.now) ((core_of core.now).nodes processor) result }
+{
+    // brings: there are at most 16 nodes
+    let _nodes = core.layout().nodes();
+    let node = core.node(processor as u8);
+    match node.standing() {
+        Standing::Waiting => waits_of(core.layout(), node),
+        Standing::Running | Standing::AtPoll | Standing::Ended | Standing::Over => Doing::Runs,
+    }
+}
+
+/// What a node does that waits.
+fn waits_of(layout: &Layout, node: &Node<'_>) -> Doing
+    requires layout { layout.now ≡ (work_at node.now).layout }
+    requires waits { standing_of (work_at node.now) (node_of node.now) ≡ Standing.Waiting }
+    ensures { model.NodeDoes (work_at node.now) (node_of node.now) result }
+{
+    match first_wait(layout, node) {
+        Some(block) => Doing::Waits { block },
+        None => Doing::Runs,
+    }
+}
+
+/// The first block for which a node waits, if it waits for one.
+fn first_wait(layout: &Layout, node: &Node<'_>) -> Option<Block>
+    ensures { MatchOption result (model.HasNoWait layout.now (node_of node.now))
+        (model.IsFirstWait (node_of node.now)) }
+{
+    for block in 0..layout.blocks() {
+        if node.waits_for(block) {
+            return Some(block);
+        }
+    }
+    None
 }
 
 /// What the home of an address' block keeps of it, and its state at each node; or that no block has

@@ -1,11 +1,12 @@
 //! A recorded run, as a target of the debugger.
 
-ghost use Rattle.std.specs.Prelude.{◌≡◌, true, IfOk, OnOk, None, Some};
+ghost use Rattle.std.specs.Prelude.{◌≡◌, ◌<◌, true, IfOk, OnOk, None, Some};
 
 use crate::command::{Command, command_of};
-use crate::nodes::{block_text, node_text};
+use crate::nodes::{block_text, doing_of, node_text};
 use crate::texts::{no_miss_text, push_last, unknown_text, write_text};
 use crate::walk::{LastEvent, Walk};
+use block_layout::Layout;
 use debugged_run::gdb_session::gdb_remote::Point;
 use debugged_run::gdb_session::{Doing, Motion, Stop, Target};
 use debugged_run::time_machine::one_memory::Pick;
@@ -61,7 +62,7 @@ impl<'a> RecordedRun<'a> {
     ghost use Rattle.debugged_run.specs.time_machine.Stand.{IsInterleaved};
     ghost use Rattle.recorded_run.specs.declared.command.Command.TheVariants as commands;
     ghost use Rattle.recorded_run.specs.declared.walk.LastEvent.{LastEvent as Last};
-    ghost use Rattle.recorded_run.specs.Tells.{TellsAs};
+    ghost use Rattle.recorded_run.specs.Tells.{DoesAsNode, TellsAs};
     ghost use Rattle.recorded_run.specs.Shown.{StandsFor};
     ghost use Rattle.recorded_run.specs.Walks.{IsAlongShown, IsWalking, StandsAt};
     ghost use Rattle.recorded_run.specs.Walks.{behind_none, comes_to};
@@ -74,7 +75,6 @@ impl<'a> RecordedRun<'a> {
         plan: &'a Plan,
         code: &'a Code,
         kept: &'a Record,
-        nodes: NodeCount,
         megabytes: u32,
         picks: Vec<Pick>,
     ) -> Result<RecordedRun<'a>, AllocError>
@@ -85,7 +85,7 @@ impl<'a> RecordedRun<'a> {
         requires interleaved { IsInterleaved (record {
           program = work.now.program.now;
           layout = work.now.layout.now;
-          nodes = nodes;
+          nodes = work.now.layout.now.nodes;
           picks = picks.items;
         }) }
         ensures { IfOk result (λ d. d ≡ record {
@@ -93,7 +93,7 @@ impl<'a> RecordedRun<'a> {
             run = record {
               program = work.now.program.now;
               layout = work.now.layout.now;
-              nodes = nodes;
+              nodes = work.now.layout.now.nodes;
               picks = picks.items;
             };
             position = 0;
@@ -105,6 +105,7 @@ impl<'a> RecordedRun<'a> {
           behind = None;
         }) }
     {
+        let nodes = nodes_of(work.layout);
         let debugged = DebuggedRun::new(alloc, work.program, work.layout, nodes, megabytes, picks)?;
         Ok(RecordedRun {
             debugged,
@@ -203,6 +204,19 @@ impl<'a> RecordedRun<'a> {
         Ok(text)
     }
 
+    /// What the node of a processor does, where the nodes are shown.
+    fn doing_of_node(&mut self, alloc: Global, processor: u16) -> Result<Doing, AllocError>
+        requires { processor < self.old.stand.run.nodes }
+        ensures does { IfOk result (DoesAsNode self.old processor) }
+        ensures same { OnOk result (self.new ≡ self.old) }
+    {
+        let behind = self.behind;
+        let walk = self.take_walk(alloc)?;
+        let doing = doing_of(walk.core(), processor);
+        self.keep(walk, behind);
+        Ok(doing)
+    }
+
     /// Goes behind the next word that wants a block, and tells of it; or to the end of the run.
     fn go_to_miss(&mut self, alloc: Global) -> Result<Vec<u8>, AllocError>
         ensures { IfOk result (λ told. TellsAs self.old commands.Miss told.items self.new) }
@@ -241,9 +255,11 @@ impl<'a> RecordedRun<'a> {
 
 impl<'a> Target for RecordedRun<'a> {
     ghost use Rattle.recorded_run.specs.Shown.{shown_from};
-    ghost use Rattle.recorded_run.specs.Tells.{Moves, Tells};
+    ghost use Rattle.recorded_run.specs.Tells.{Does, Moves, Tells};
 
     ghost view = { shown_from };
+
+    ghost does = { Does };
 
     ghost moves = { Moves };
 
@@ -261,8 +277,11 @@ impl<'a> Target for RecordedRun<'a> {
         self.debugged.byte(processor, address)
     }
 
-    fn doing(&self, processor: u16) -> Doing {
-        self.debugged.doing(processor)
+    fn doing(&mut self, alloc: Global, processor: u16) -> Result<Doing, AllocError> {
+        if self.debugged.has_ended(processor) {
+            return Ok(Doing::Exited);
+        }
+        self.doing_of_node(alloc, processor)
     }
 
     fn go(&mut self, motion: Motion, points: &[Point]) -> Result<Stop, AllocError> {
@@ -280,5 +299,15 @@ impl<'a> Target for RecordedRun<'a> {
             Command::BackToWrite(address) => self.go_back_to_write(alloc, address),
             Command::Unknown => unknown_text(alloc),
         }
+    }
+}
+
+/// How many processors a run on this layout has.
+fn nodes_of(layout: &Layout) -> NodeCount
+    ensures { result ≡ layout.now.nodes }
+{
+    match NodeCount::of(u64::from(layout.nodes())) {
+        Some(nodes) => nodes,
+        None => unreachable!(),
     }
 }

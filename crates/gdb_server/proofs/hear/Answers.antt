@@ -10,6 +10,7 @@ use Rattle.gdb_server.proofs.hear.Goals as goal
 pub returns-clause-hears : goal.returns-clause-hears
 returns-clause-hears g c =
     let view = g.T.Target.view in
+    let does = g.T.Target.does in
     let moves = g.T.Target.moves in
     let tells = g.T.Target.tells in
     let s = c.args.server.now in
@@ -24,15 +25,16 @@ returns-clause-hears g c =
     let piece : c.deref.result.now ≡ put_at_once s c.args.byte =
     c.deref.ensures.value ∙ read.puts ∙ ap (λ r. r ++ put_at_once s c.args.byte) c.new-piece.ensures.items in
     IfOk-weaker c.answer.result
-    (λ after. HasAnswered view moves tells h t (standing c.answer.new.server c.answer.new.target after) o1 o2)
-    (λ after. HasHeard view moves tells (standing s t GoesOn) c.args.byte (standing c.answer.new.server c.answer.new.target after) o o2)
-    (λ after a. hears_answer view moves tells s h t c.args.byte (standing c.answer.new.server c.answer.new.target after) o o1 o2
+    (λ after. HasAnswered view does moves tells h t (standing c.answer.new.server c.answer.new.target after) o1 o2)
+    (λ after. HasHeard view does moves tells (standing s t GoesOn) c.args.byte (standing c.answer.new.server c.answer.new.target after) o o2)
+    (λ after a. hears_answer view does moves tells s h t c.args.byte (standing c.answer.new.server c.answer.new.target after) o o1 o2
     c.deref.result.now heard asked piece c.in_ok-put.ensures.ok a)
     c.answer.ensures.answers
 
 pub returns-clause-breaks : goal.returns-clause-breaks
 returns-clause-breaks g c =
     let view = g.T.Target.view in
+    let does = g.T.Target.does in
     let moves = g.T.Target.moves in
     let tells = g.T.Target.tells in
     let s = c.args.server.now in
@@ -46,7 +48,7 @@ returns-clause-breaks g c =
     let asked : is_request (event_of s c.args.byte) ≡ true = cc in
     let piece : c.deref.result.now ≡ put_at_once s c.args.byte =
     c.deref.ensures.value ∙ read.puts ∙ ap (λ r. r ++ put_at_once s c.args.byte) c.new-piece.ensures.items in
-    IfErr-weaker c.answer.result (BreaksAnswerOff view moves tells h t o1 o2)
-    (BreaksOff view moves tells (standing s t GoesOn) c.args.byte o o2)
-    (λ e a. breaks_answer view moves tells s h t c.args.byte o o1 o2 c.deref.result.now e heard asked piece c.in_ok-put.ensures.ok a)
+    IfErr-weaker c.answer.result (BreaksAnswerOff view does moves tells h t o1 o2)
+    (BreaksOff view does moves tells (standing s t GoesOn) c.args.byte o o2)
+    (λ e a. breaks_answer view does moves tells s h t c.args.byte o o1 o2 c.deref.result.now e heard asked piece c.in_ok-put.ensures.ok a)
     c.answer.ensures.breaks
