@@ -39,6 +39,15 @@ const MISS: &str =
     3030303230303030206f6620626c6f636b203020746f20726561642c20776869636820697320696e7661\
     6c69643b2073656e64732052656164206f6620626c6f636b203020746f20300a#bc";
 
+/// Behind it the first processor has ended: of its thread it is told `exited`.
+const EXITED: &str = "+$657869746564#89";
+
+/// The second waits there: `waits for block 0`.
+const WAITING: &str = "+$776169747320666f7220626c6f636b2030#b1";
+
+/// At the beginning it runs: `stopped`.
+const STOPPED: &str = "+$73746f70706564#14";
+
 /// Of `where` behind it: five steps of processor 0 and two of processor 1 come before.
 const BEHIND: &str =
     "+$61667465722037206f66203131207069636b732c20746865206c617374206f662070726f636573736f\
@@ -84,7 +93,7 @@ type Session = (
 );
 
 /// B is the record with one entry changed, whose message isn't there yet.
-const SESSIONS: [Session; 16] = [
+const SESSIONS: [Session; 17] = [
     ("gdb IN R", "", &[], 0, &[], ""),
     ("gdb IN R", "$?#3f", &[], 0, &[FIRST], ""),
     ("gdb IN R", "$?#3f+$D#44$?#3f", &[], 0, &[FIRST, OK], ""),
@@ -167,6 +176,16 @@ const SESSIONS: [Session; 16] = [
         &[],
         0,
         &[MISS, NO_MISS, AT_END, UNWRITTEN, AT_START],
+        "",
+    ),
+    // what threads do, of which there are two: at the beginning, behind the miss, and at the end
+    (
+        "gdb IN R",
+        "$qThreadExtraInfo,2#b7$qRcmd,6d697373#00$qThreadExtraInfo,1#b6$qThreadExtraInfo,2#b7\
+            $qThreadExtraInfo,3#b8$c#63$qThreadExtraInfo,2#b7",
+        &[],
+        0,
+        &[STOPPED, MISS, EXITED, WAITING, "+$E01#a6", END, EXITED],
         "",
     ),
     ("gdb IN R --node 1", "$?#3f", &[1], 2, &[], USAGE),

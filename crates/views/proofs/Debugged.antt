@@ -21,10 +21,10 @@ use Rattle.jump_map.specs.Image.{Cell}
 use Rattle.templates.specs.declared.plans.PlanEntry.{PlanEntry}
 use Rattle.recorded_run.specs.debugged_run.one_memory.Shown.{pick_of}
 use Rattle.recorded_run.specs.debugged_run.one_memory.declared.Pick.{Pick}
-use Rattle.recorded_run.specs.record_picks.Picks.{ArePicksOf, IsInterleaved as OfWork}
+use Rattle.recorded_run.specs.record_picks.Picks.{ArePicksOf}
 use Rattle.recorded_run.specs.debugged_run.time_machine.Stand.{Run, IsInterleaved}
 use Rattle.recorded_run.specs.Shown.{Recorded, shown_from}
-use Rattle.recorded_run.specs.Tells.{Moves, Tells}
+use Rattle.recorded_run.specs.Tells.{Does, Moves, Tells}
 use Rattle.gdb_server.specs.Ends.{Streams}
 use Rattle.gdb_server.specs.Transcripts.{Standing, opening, Serves}
 use Rattle.views.specs.Answers.{IsRefusalStatus}
@@ -89,7 +89,7 @@ same_gdb run other memory most is = ap (λ v. run_in v run) is
 -- 2. What was put is a text of the view
 
 transcript : (inputs : Inputs) (first : Recorded) (heard put : List ℕ) (standing : Standing Recorded)
-    → IsShown inputs first → Serves shown_from Moves Tells (opening first) heard put standing
+    → IsShown inputs first → Serves shown_from Does Moves Tells (opening first) heard put standing
     → IsSessionText inputs put
 transcript inputs first heard put standing shown serves = record {
   first = first;
@@ -262,24 +262,18 @@ shown_longer run memory files files_now io (Err f) name content ok failure among
 
 -- 5. The run that is shown, and a session's own ends
 
-abbrev pub run_of : Prepared → (nodes : ℕ) → List Pick → Run
-run_of prepared nodes picks = record {
+abbrev pub run_of : Prepared → List Pick → Run
+run_of prepared picks = record {
   program = prepared.program;
   layout = prepared.layout;
-  nodes = nodes;
+  nodes = prepared.layout.nodes;
   picks = picks;
 }
 
--- as many processors as the layout has make an interleaved run
-pub with_nodes : (prepared : Prepared) (nodes : ℕ) (picks : List Pick) → nodes ≡ prepared.layout.nodes
-    → OfWork (work_for prepared) (map pick_of picks) → IsInterleaved (run_of prepared nodes picks)
-with_nodes prepared nodes picks nodes_are h =
-    subst (λ n. IsInterleaved (run_of prepared n picks)) (sym nodes_are) h
-
 -- what is shown first, by this image and this plan
-abbrev pub first_of : Prepared → Kept → (nodes : ℕ) → List Pick → List Cell → List PlanEntry → Recorded
-first_of prepared kept nodes picks image plan = record {
-  stand = record { run = run_of prepared nodes picks; position = 0 };
+abbrev pub first_of : Prepared → Kept → List Pick → List Cell → List PlanEntry → Recorded
+first_of prepared kept picks image plan = record {
+  stand = record { run = run_of prepared picks; position = 0 };
   image = image;
   budget = prepared.budget;
   plan = plan;
@@ -287,22 +281,21 @@ first_of prepared kept nodes picks image plan = record {
   behind = None;
 }
 
-pub is_shown : (inputs : Inputs) (prepared : Prepared) (kept : Kept) (nodes : ℕ) (picks : List Pick)
+pub is_shown : (inputs : Inputs) (prepared : Prepared) (kept : Kept) (picks : List Pick)
     (image : List Cell) (plan : List PlanEntry) (s : Recorded)
     → IsWorkOf inputs kept prepared.program prepared.rewritten.plan (work_for prepared)
-    → nodes ≡ prepared.layout.nodes
     → ArePicksOf (work_for prepared) prepared.rewritten.plan kept (map pick_of picks)
-    → IsInterleaved (run_of prepared nodes picks)
+    → IsInterleaved (run_of prepared picks)
     → image ≡ prepared.rewritten.image → plan ≡ prepared.rewritten.plan
-    → s ≡ first_of prepared kept nodes picks image plan → IsShown inputs s
-is_shown inputs prepared kept nodes picks image plan s asked nodes_are are interleaved image_is plan_is stands =
-    let of_image : s ≡ first_of prepared kept nodes picks prepared.rewritten.image plan =
-    subst (λ i. s ≡ first_of prepared kept nodes picks i plan) image_is stands in
-    let of_plan : s ≡ first_of prepared kept nodes picks prepared.rewritten.image prepared.rewritten.plan =
-    subst (λ p. s ≡ first_of prepared kept nodes picks prepared.rewritten.image p) plan_is of_image in
+    → s ≡ first_of prepared kept picks image plan → IsShown inputs s
+is_shown inputs prepared kept picks image plan s asked are interleaved image_is plan_is stands =
+    let of_image : s ≡ first_of prepared kept picks prepared.rewritten.image plan =
+    subst (λ i. s ≡ first_of prepared kept picks i plan) image_is stands in
+    let of_plan : s ≡ first_of prepared kept picks prepared.rewritten.image prepared.rewritten.plan =
+    subst (λ p. s ≡ first_of prepared kept picks prepared.rewritten.image p) plan_is of_image in
     subst (IsShown inputs) (sym of_plan) (record {
       asked = asked;
-      nodes = nodes_are;
+      nodes = refl;
       picks = are;
       interleaved = interleaved;
       start = refl;

@@ -8,7 +8,7 @@ use Rattle.recorded_run.specs.record_picks.Picks.{ArePicksOf}
 use Rattle.recorded_run.specs.debugged_run.time_machine.Stand.{IsInterleaved}
 use Rattle.recorded_run.specs.debugged_run.one_memory.Shown.{pick_of}
 use Rattle.recorded_run.specs.Shown.{Recorded, shown_from, work_shown}
-use Rattle.recorded_run.specs.Tells.{Moves, Tells}
+use Rattle.recorded_run.specs.Tells.{Does, Moves, Tells}
 use Rattle.gdb_server.specs.Ends.{Streams, HasServed, HasBroken, HasStopped, IsBeginning}
 use Rattle.gdb_server.specs.Transcripts.{Standing, opening, Serves}
 use Rattle.gdb_server.specs.declared.ServeEnd.{ServeEnd}
@@ -39,19 +39,19 @@ pub record HasShown (inputs : Inputs) (io : Streams) : Type 0 where
   pub shown : IsShown inputs first
   pub end : ServeEnd
   pub last : Recorded
-  pub served : HasServed shown_from Moves Tells first io end last
+  pub served : HasServed shown_from Does Moves Tells first io end last
 
 -- the output failed or memory was wanted while a debugger was served
 pub record HasShownPart (inputs : Inputs) (io : Streams) : Type 0 where
   pub first : Recorded
   pub shown : IsShown inputs first
-  pub broken : HasBroken shown_from Moves Tells first io
+  pub broken : HasBroken shown_from Does Moves Tells first io
 
 -- the input failed while a debugger was served
 pub record HasShownUpTo (inputs : Inputs) (io : Streams) : Type 0 where
   pub first : Recorded
   pub shown : IsShown inputs first
-  pub stopped : HasStopped shown_from Moves Tells first io
+  pub stopped : HasStopped shown_from Does Moves Tells first io
 
 -- nothing was read and nothing was put
 pub record IsUntouched (io : Streams) : Type 0 where
@@ -69,8 +69,8 @@ pub record IsSessionText (inputs : Inputs) (text : List ℕ) : Type 0 where
   pub heard : List ℕ
   pub put : List ℕ
   pub standing : Standing Recorded
-  pub serves : Serves shown_from Moves Tells (opening first) heard put standing
+  pub serves : Serves shown_from Does Moves Tells (opening first) heard put standing
   pub byte : ℕ
   pub piece : List ℕ
-  pub begins : IsBeginning shown_from Moves Tells standing byte piece
+  pub begins : IsBeginning shown_from Does Moves Tells standing byte piece
   pub text_is : text ≡ put ++ piece

@@ -18,7 +18,6 @@ ghost use Rattle.views.specs.Failures.{FailsAsSession, HasShownRun, IsInputFault
 
 use crate::input::{read_inputs, run_files};
 use crate::recorded::refusal_of;
-use block_layout::Layout;
 use byte_source::Source;
 use command_line::{Megabytes, RecordedFiles};
 use dsm_core::Work;
@@ -31,7 +30,6 @@ use prepared_run::{Prepared, prepare_replay};
 use recorded_run::RecordedRun;
 use recorded_run::debugged_run::time_machine::one_memory::Pick;
 use recorded_run::record_picks::picks_of_record;
-use run_limits::NodeCount;
 use run_record::Record;
 use std::alloc::{AllocError, Global};
 use templates::Code;
@@ -111,9 +109,8 @@ fn serve_prepared<S: Source, O: Sink>(
         budget: prepared.budget,
     };
     let plan = prepared.rewritten.plan();
-    let nodes = nodes_of(&prepared.layout);
     let megabytes = memory.number();
-    let mut run = RecordedRun::new(alloc, &work, plan, code, kept, nodes, megabytes, picks)?;
+    let mut run = RecordedRun::new(alloc, &work, plan, code, kept, megabytes, picks)?;
     match serve(alloc, &mut run, source, out) {
         Ok(_) => Ok(()),
         Err(ServeError::Input) => Err(unread(alloc)),
@@ -147,16 +144,6 @@ fn picks_of(
     match picks_of_record(alloc, &prepared.work(), plan, code, kept) {
         Ok(picks) => Ok(picks),
         Err(refused) => Err(refusal_of(alloc, refused)),
-    }
-}
-
-/// How many processors a run on this layout has.
-fn nodes_of(layout: &Layout) -> NodeCount
-    ensures { result ≡ layout.now.nodes }
-{
-    match NodeCount::of(u64::from(layout.nodes())) {
-        Some(nodes) => nodes,
-        None => unreachable!(),
     }
 }
 
