@@ -1,12 +1,13 @@
 //! Words and their texts, from what GNU objdump 2.40 says of the same words.
 
 use rv32_text::line_of;
+use std::alloc::Global;
 use std::test::Fail;
 
 /// An address, a word and its text. The numbers are those of `objdump -M no-aliases,numeric`; the
 /// spelling is this crate's. Of the last five words objdump does not say so: three are illegal
 /// here, and two have no row.
-const TEXTS: [(u32, u32, &str); 80] = [
+static TEXTS: [(u32, u32, &str); 80] = [
     (0x00010000, 0x00000037, "lui x0, 0x0"),
     (0x00010000, 0x000205b7, "lui x11, 0x20"),
     (0x00010000, 0xffffffb7, "lui x31, 0xfffff"),
@@ -89,13 +90,21 @@ const TEXTS: [(u32, u32, &str); 80] = [
     (0xabcdef04, 0x04108133, "unknown"),
 ];
 
+/// Fails the test where a word at an address has another line.
+fn try_line(alloc: Global, address: u32, word: u32, text: &str) -> Result<(), Fail> {
+    let mut line = Vec::new(alloc);
+    line_of(address, word, &mut line)?;
+    let expected = format!(in alloc; "{address:08x}: {word:08x} {text}\n")?;
+    if line.as_slice() == expected.as_bytes() {
+        return Ok(());
+    }
+    Err(Fail::new(format_args!("{word:08x}")))
+}
+
 #[test]
 fn lines_are_those_of_objdump(rt: HostRuntime) -> Result<(), Fail> {
-    for (address, word, text) in TEXTS {
-        let mut line = Vec::new(rt.alloc());
-        line_of(address, word, &mut line)?;
-        let expected = format!(in rt.alloc(); "{address:08x}: {word:08x} {text}\n")?;
-        assert_eq!(rt; line.as_slice(), expected.as_bytes(), "{word:08x}");
+    for &(address, word, text) in &TEXTS {
+        try_line(rt.alloc(), address, word, text)?;
     }
     Ok(())
 }

@@ -158,7 +158,7 @@ const TAKE: Event = Event::Take { node: 0, from: 1 };
 
 /// What two sharers do that then both want to write. A node that executes goes on until it stands
 /// at a poll or waits.
-const SHARING: [Event; 18] = [
+static SHARING: [Event; 18] = [
     Event::Exec(0),
     Event::Exec(1),
     // the Read, as it is forwarded; the Data; the Done
@@ -224,7 +224,7 @@ fn have_shared(core: &mut Core<'_>) -> Result<bool, Fail> {
 }
 
 /// The takes of the node that has a block, and of the node that reads it.
-const HOME: [Entry; 5] = [
+static HOME: [Entry; 5] = [
     Entry {
         stamp: 7,
         from: 0,
@@ -252,7 +252,7 @@ const HOME: [Entry; 5] = [
     },
 ];
 
-const READER: [Entry; 3] = [
+static READER: [Entry; 3] = [
     Entry {
         stamp: 9,
         from: 0,

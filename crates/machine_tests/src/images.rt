@@ -19,7 +19,7 @@ struct Sequence {
     words: &'static [u32],
 }
 
-const SEQUENCES: [Sequence; 10] = [
+static SEQUENCES: [Sequence; 10] = [
     // the whole of a program that writes, from the word before its first place
     Sequence {
         code: HI,

@@ -58,7 +58,7 @@ struct Case {
     breaks: bool,
 }
 
-const CASES: [Case; 9] = [
+static CASES: [Case; 9] = [
     // into the block
     Case {
         address: "addi x7, x5, 0",

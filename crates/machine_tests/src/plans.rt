@@ -52,7 +52,7 @@ struct Known {
     scratches: &'static [(u32, Option<(Chosen, Chosen)>)],
 }
 
-const KNOWN: [Known; 3] = [
+static KNOWN: [Known; 3] = [
     Known {
         code: LOOP,
         edges: &[

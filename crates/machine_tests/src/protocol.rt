@@ -141,7 +141,7 @@ fn state(protocol: &Protocol, node: u8) -> &'static str {
 /// first message from the node to another then, with its requester and its number of Acks.
 type TakeRow = (u8, u8, &'static str, u8, (&'static str, u8, u8));
 
-const TAKES: [TakeRow; 6] = [
+static TAKES: [TakeRow; 6] = [
     (0, 0, "shared", 1, ("Inval", 0, 0)),
     (0, 1, "shared", 0, ("Grant", 0, 1)),
     (1, 0, "pending", 0, ("Ack", 0, 0)),

@@ -28,7 +28,7 @@ pub(crate) const LINES: [&str; 16] = [
 /// Which line is replaced, counted from 0, and by what; the number of the rule that the text then
 /// breaks first, and the line that breaks it, counted from 1. Number 0 is for a text that breaks
 /// none.
-const CASES: [(usize, &str, u8, usize); 28] = [
+static CASES: [(usize, &str, u8, usize); 28] = [
     (0, "shasta-record 9\n", 43, 1),
     (1, "nodes 17\n", 42, 2),
     (5, "take 5 0 6\n", 41, 6),
@@ -82,7 +82,7 @@ pub(crate) const NAMED: [&str; 17] = [
 ];
 
 /// Likewise for these lines. No stamp is as high as 2^63, 9223372036854775808.
-const NAMED_CASES: [(usize, &str, u8, usize); 16] = [
+static NAMED_CASES: [(usize, &str, u8, usize); 16] = [
     (0, "shasta-record 1\n", 40, 5),
     (0, "shasta-record 3\n", 43, 1),
     (4, "", 40, 5),
@@ -103,13 +103,13 @@ const NAMED_CASES: [(usize, &str, u8, usize); 16] = [
 
 /// Texts of the sixth line of the first record, each of which breaks another rule; and likewise of
 /// its fourteenth.
-const SIXTH: [(&str, u8); 3] = [
+static SIXTH: [(&str, u8); 3] = [
     ("take 07 0 6\n", 40),
     ("take 5 0 6\n", 41),
     ("take 7 2 6\n", 42),
 ];
 
-const FOURTEENTH: [&str; 3] = ["take 011 0 0\n", "take 9 0 0\n", "take 11 2 0\n"];
+static FOURTEENTH: [&str; 3] = ["take 011 0 0\n", "take 9 0 0\n", "take 11 2 0\n"];
 
 /// The text of these lines, one of them replaced.
 fn text_of(
@@ -156,7 +156,7 @@ fn try_text(
 
 #[test]
 fn a_record_with_one_line_replaced(rt: HostRuntime) -> Result<(), Fail> {
-    for (replaced, text, number, broken) in CASES {
+    for &(replaced, text, number, broken) in &CASES {
         try_text(rt.alloc(), &LINES, replaced, text, (number, broken))?;
     }
     Ok(())
@@ -164,7 +164,7 @@ fn a_record_with_one_line_replaced(rt: HostRuntime) -> Result<(), Fail> {
 
 #[test]
 fn a_record_of_named_words_with_one_line_replaced(rt: HostRuntime) -> Result<(), Fail> {
-    for (replaced, text, number, broken) in NAMED_CASES {
+    for &(replaced, text, number, broken) in &NAMED_CASES {
         try_text(rt.alloc(), &NAMED, replaced, text, (number, broken))?;
     }
     Ok(())
@@ -175,27 +175,35 @@ fn a_record_of_named_words_with_one_line_replaced(rt: HostRuntime) -> Result<(),
 fn try_sixth(alloc: Global, sixth: &'static str, number: u8) -> Result<(), Fail> {
     let mut lines = LINES;
     lines[5] = sixth;
-    for fourteenth in FOURTEENTH {
+    for fourteenth in &FOURTEENTH {
         try_text(alloc, &lines, 13, fourteenth, (number, 6))?;
     }
     try_text(alloc, &lines, 0, "shasta-record 9\n", (43, 1))
+}
+
+/// Which other line breaks two rules, counted from 0, its text, the number of the lower rule, and
+/// the line, counted from 1.
+static OTHERS: [(usize, &str, u8, usize); 4] = [
+    (1, "nodes 0\n", 42, 2),
+    (13, "take 9 2 0\n", 41, 14),
+    (14, "take 16 2 4\n", 42, 15),
+    (14, "take 15 1 4\n", 41, 15),
+];
+
+/// Fails the test where another line isn't refused for the lower of its rules.
+fn try_others(alloc: Global) -> Result<(), Fail> {
+    for &(replaced, text, number, broken) in &OTHERS {
+        try_text(alloc, &LINES, replaced, text, (number, broken))?;
+    }
+    Ok(())
 }
 
 /// Of two lines that break a rule the first is told, whatever their rules; and of two rules that a
 /// line breaks the lower one.
 #[test]
 fn a_record_with_two_faults(rt: HostRuntime) -> Result<(), Fail> {
-    for (sixth, number) in SIXTH {
+    for &(sixth, number) in &SIXTH {
         try_sixth(rt.alloc(), sixth, number)?;
     }
-    for (place, text, number) in [
-        (1_usize, "nodes 0\n", 42),
-        (13, "take 9 2 0\n", 41),
-        (14, "take 16 2 4\n", 42),
-        (14, "take 15 1 4\n", 41),
-    ] {
-        let wanted = (number, place.saturating_add(1));
-        try_text(rt.alloc(), &LINES, place, text, wanted)?;
-    }
-    Ok(())
+    try_others(rt.alloc())
 }
