@@ -5,10 +5,11 @@
     programs/build
     ./programs.py PROGRAM [ROUNDS] [FOLDER]
 
-PROGRAM is the built program (crates/shasta/out/shasta), and FOLDER has the executables (programs/). A row has how many instructions the original executes, how many
-rewritten words stand for one of them, by default and with `--no-batch`, the rod's time for an instruction in
-nanoseconds, and `run`'s time for an original instruction as a multiple of the rod's, both ways. Times are of the
-processor, with the start taken off; rounds alternate, and the best of so many (5) is given."""
+PROGRAM is the built program (crates/shasta/out/shasta), and FOLDER has the executables (programs/).
+A row has how many instructions the original executes, how many rewritten words stand for one of them,
+by default and with `--no-batch`, and the rod's time for an instruction in nanoseconds. Then it has the
+time of an original instruction as a multiple of the rod's, in `run`, both ways, and in `one`. Times are
+of the processor, with the start taken off; rounds alternate, and the best of so many (5) is given."""
 import pathlib, re, resource, subprocess, sys
 
 here = pathlib.Path(__file__).resolve().parent
@@ -18,37 +19,47 @@ folder = pathlib.Path(sys.argv[3]) if len(sys.argv) > 3 else here / "programs"
 BUDGET = str(2**32 - 1)
 NAMES = ("sort", "matrix", "pack", "strings", "crc", "structs")
 
+
 def called(words):
     """The processor time of a call, and what it said."""
     before = resource.getrusage(resource.RUSAGE_CHILDREN).ru_utime
     said = subprocess.run(words, capture_output=True, text=True, check=False).stdout
     return resource.getrusage(resource.RUSAGE_CHILDREN).ru_utime - before, said
 
-def run(file, option, budget=BUDGET):
-    return called([program, "run", file, "--budget", budget, *option])
+
+def run(file, option, budget=BUDGET, command="run"):
+    return called([program, command, file, "--budget", budget, *option])
+
 
 def words_of(file, option, count):
-    """The least budget with which the program ends by itself, to a part in five hundred; at most 40 words stand for an
-    instruction."""
+    """The least budget with which the program ends by itself, to a part in five hundred; at most 40
+    words stand for an instruction."""
     low, high = count, 40 * count
     while high - low > low // 500:
         middle = (low + high) // 2
-        low, high = (low, middle) if "exit 0" in run(file, [*option, "--brief"], str(middle))[1] else (middle, high)
+        if "exit 0" in run(file, [*option, "--brief"], str(middle))[1]:
+            high = middle
+        else:
+            low = middle
     return high
 
-print(f"{'':9}{'instructions':>13}{'words':>7}{'no batch':>9}{'rod ns':>8}{'run/rod':>9}{'no batch':>9}")
+
+print("| Program | instructions | words for one | with `--no-batch` | the rod, ns | `run` / rod"
+      " | with `--no-batch` | `one` / rod |")
+print("|---|---|---|---|---|---|---|---|")
 for name in NAMES:
     file = str(folder / f"{name}.elf")
     said = called([str(here / "rod"), file])[1]
     wanted, count = said.splitlines()[0], int(re.search(r"^(\d+) instructions", said, re.M).group(1))
-    best = [1e9, 1e9, 1e9]
+    best = [1e9, 1e9, 1e9, 1e9]
     for _ in range(ROUNDS):
         times = [called([str(here / "rod"), file])[0]]
-        for option in ([], ["--no-batch"]):
-            took, text = run(file, option)
+        for command, option in (("run", []), ("run", ["--no-batch"]), ("one", [])):
+            took, text = run(file, option, command=command)
             assert wanted in text, f"{name}: {text}"
-            times.append(took - run(file, option, "1000")[0])
+            times.append(took - run(file, option, "1000", command)[0])
         best = [min(pair) for pair in zip(best, times)]
     words = [words_of(file, option, count) / count for option in ([], ["--no-batch"])]
-    print(f"{name:9}{count:13,}{words[0]:7.2f}{words[1]:9.2f}{best[0] / count * 1e9:8.2f}"
-          f"{best[1] / best[0]:9.2f}{best[2] / best[0]:9.2f}", flush=True)
+    rod, batches, single, one = best
+    print(f"| `{name}` | {count:,} | {words[0]:.2f} | {words[1]:.2f} | {rod / count * 1e9:.2f}"
+          f" | {batches / rod:.2f} | {single / rod:.2f} | {one / rod:.2f} |", flush=True)

@@ -32,6 +32,7 @@ x/i $pc
 monitor node 0
 monitor node 1
 monitor block 0x11300
+info threads
 
 echo \n# The end of the run, and back to the last two writes of the balance.\n
 continue
