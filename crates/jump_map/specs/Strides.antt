@@ -11,7 +11,8 @@ use Rattle.jump_map.specs.declared.strides.StrideKind.TheVariants as stride
 abbrev pub op_of : MicroKind → (rd rs1 rs2 imm : ℕ) → MicroOp
 op_of k rd rs1 rs2 imm = record { kind = k; rd = rd; rs1 = rs1; rs2 = rs2; imm = imm }
 
--- what a stride of one word says of its micro-op; one of a whole sequence says nothing
+-- what a stride of one word says of its micro-op, and one that goes on behind an operation says of
+-- that; one of a whole sequence says nothing
 abbrev pub IsPlain : StrideKind → MicroOp → Type 0
 IsPlain stride.Nothing m = m.kind ≡ kind.Nothing
 IsPlain stride.Constant m = m.kind ≡ kind.Constant
@@ -59,6 +60,38 @@ IsPlain stride.Div m = m.kind ≡ kind.Div
 IsPlain stride.Divu m = m.kind ≡ kind.Divu
 IsPlain stride.Rem m = m.kind ≡ kind.Rem
 IsPlain stride.Remu m = m.kind ≡ kind.Remu
+IsPlain stride.AddImmThenAddImm m = m.kind ≡ kind.AddImm
+IsPlain stride.AddImmThenAdd m = m.kind ≡ kind.AddImm
+IsPlain stride.AddThenAddImm m = m.kind ≡ kind.Add
+IsPlain stride.AddThenAdd m = m.kind ≡ kind.Add
+IsPlain stride.SllImmThenAddImm m = m.kind ≡ kind.SllImm
+IsPlain stride.SllImmThenAdd m = m.kind ≡ kind.SllImm
+IsPlain stride.MulThenAddImm m = m.kind ≡ kind.Mul
+IsPlain stride.MulThenAdd m = m.kind ≡ kind.Mul
+IsPlain stride.AddImmThenOverEq m = m.kind ≡ kind.AddImm
+IsPlain stride.AddImmThenOverNe m = m.kind ≡ kind.AddImm
+IsPlain stride.AddImmThenOverLt m = m.kind ≡ kind.AddImm
+IsPlain stride.AddImmThenOverGe m = m.kind ≡ kind.AddImm
+IsPlain stride.AddImmThenOverLtu m = m.kind ≡ kind.AddImm
+IsPlain stride.AddImmThenOverGeu m = m.kind ≡ kind.AddImm
+IsPlain stride.AddImmThenPollOverEq m = m.kind ≡ kind.AddImm
+IsPlain stride.AddImmThenPollOverNe m = m.kind ≡ kind.AddImm
+IsPlain stride.AddImmThenPollOverLt m = m.kind ≡ kind.AddImm
+IsPlain stride.AddImmThenPollOverGe m = m.kind ≡ kind.AddImm
+IsPlain stride.AddImmThenPollOverLtu m = m.kind ≡ kind.AddImm
+IsPlain stride.AddImmThenPollOverGeu m = m.kind ≡ kind.AddImm
+IsPlain stride.AddThenOverEq m = m.kind ≡ kind.Add
+IsPlain stride.AddThenOverNe m = m.kind ≡ kind.Add
+IsPlain stride.AddThenOverLt m = m.kind ≡ kind.Add
+IsPlain stride.AddThenOverGe m = m.kind ≡ kind.Add
+IsPlain stride.AddThenOverLtu m = m.kind ≡ kind.Add
+IsPlain stride.AddThenOverGeu m = m.kind ≡ kind.Add
+IsPlain stride.AddThenPollOverEq m = m.kind ≡ kind.Add
+IsPlain stride.AddThenPollOverNe m = m.kind ≡ kind.Add
+IsPlain stride.AddThenPollOverLt m = m.kind ≡ kind.Add
+IsPlain stride.AddThenPollOverGe m = m.kind ≡ kind.Add
+IsPlain stride.AddThenPollOverLtu m = m.kind ≡ kind.Add
+IsPlain stride.AddThenPollOverGeu m = m.kind ≡ kind.Add
 IsPlain k m = Unit {0}
 
 -- this micro-op stands at a number
@@ -268,7 +301,18 @@ pub record IsWriteHead (micros : List MicroOp) (k spilled : ℕ) : Type 0 where
   pub test : StandFrom micros (k + spilled + 10) (skip head.x.s (k + spilled + 15) ∷ [])
   pub take : TakeBack micros (k + spilled + 15) spilled (head.x.s ∷ head.x.t ∷ head.u ∷ [])
 
--- what a stride of a whole sequence says of the words from its own on; one of a word says nothing
+-- a word of a kind
+pub record IsWord (micros : List MicroOp) (k : ℕ) (is : MicroKind) : Type 0 where
+  pub micro : MicroOp
+  pub there : StandsAt micros k micro
+  pub kind_is : micro.kind ≡ is
+
+-- a poll, and behind it a branch past a jump
+abbrev pub IsPollOver : List MicroOp → ℕ → MicroKind → Type 0
+IsPollOver micros k c = IsPolled micros k × IsOver micros (k + 1) c
+
+-- what a stride of a whole sequence says of the words from its own on, and one that goes on behind
+-- an operation says of those behind it; one of a word says nothing
 abbrev pub IsWhole : StrideKind → List MicroOp → ℕ → Type 0
 IsWhole stride.OverEq micros k = IsOver micros k kind.BranchEq
 IsWhole stride.OverNe micros k = IsOver micros k kind.BranchNe
@@ -276,12 +320,12 @@ IsWhole stride.OverLt micros k = IsOver micros k kind.BranchLt
 IsWhole stride.OverGe micros k = IsOver micros k kind.BranchGe
 IsWhole stride.OverLtu micros k = IsOver micros k kind.BranchLtu
 IsWhole stride.OverGeu micros k = IsOver micros k kind.BranchGeu
-IsWhole stride.PollOverEq micros k = IsPolled micros k × IsOver micros (k + 1) kind.BranchEq
-IsWhole stride.PollOverNe micros k = IsPolled micros k × IsOver micros (k + 1) kind.BranchNe
-IsWhole stride.PollOverLt micros k = IsPolled micros k × IsOver micros (k + 1) kind.BranchLt
-IsWhole stride.PollOverGe micros k = IsPolled micros k × IsOver micros (k + 1) kind.BranchGe
-IsWhole stride.PollOverLtu micros k = IsPolled micros k × IsOver micros (k + 1) kind.BranchLtu
-IsWhole stride.PollOverGeu micros k = IsPolled micros k × IsOver micros (k + 1) kind.BranchGeu
+IsWhole stride.PollOverEq micros k = IsPollOver micros k kind.BranchEq
+IsWhole stride.PollOverNe micros k = IsPollOver micros k kind.BranchNe
+IsWhole stride.PollOverLt micros k = IsPollOver micros k kind.BranchLt
+IsWhole stride.PollOverGe micros k = IsPollOver micros k kind.BranchGe
+IsWhole stride.PollOverLtu micros k = IsPollOver micros k kind.BranchLtu
+IsWhole stride.PollOverGeu micros k = IsPollOver micros k kind.BranchGeu
 IsWhole stride.PollJump micros k = IsPolled micros k × IsJump micros (k + 1)
 IsWhole stride.PollEnter micros k = IsPolled micros k × IsEntry micros (k + 1)
 IsWhole stride.Number micros k = IsNumber micros k
@@ -320,6 +364,38 @@ IsWhole stride.WriteHead0 micros k = IsWriteHead micros k 0
 IsWhole stride.WriteHead1 micros k = IsWriteHead micros k 1
 IsWhole stride.WriteHead2 micros k = IsWriteHead micros k 2
 IsWhole stride.WriteHead3 micros k = IsWriteHead micros k 3
+IsWhole stride.AddImmThenAddImm micros k = IsWord micros (k + 1) kind.AddImm
+IsWhole stride.AddImmThenAdd micros k = IsWord micros (k + 1) kind.Add
+IsWhole stride.AddThenAddImm micros k = IsWord micros (k + 1) kind.AddImm
+IsWhole stride.AddThenAdd micros k = IsWord micros (k + 1) kind.Add
+IsWhole stride.SllImmThenAddImm micros k = IsWord micros (k + 1) kind.AddImm
+IsWhole stride.SllImmThenAdd micros k = IsWord micros (k + 1) kind.Add
+IsWhole stride.MulThenAddImm micros k = IsWord micros (k + 1) kind.AddImm
+IsWhole stride.MulThenAdd micros k = IsWord micros (k + 1) kind.Add
+IsWhole stride.AddImmThenOverEq micros k = IsOver micros (k + 1) kind.BranchEq
+IsWhole stride.AddImmThenOverNe micros k = IsOver micros (k + 1) kind.BranchNe
+IsWhole stride.AddImmThenOverLt micros k = IsOver micros (k + 1) kind.BranchLt
+IsWhole stride.AddImmThenOverGe micros k = IsOver micros (k + 1) kind.BranchGe
+IsWhole stride.AddImmThenOverLtu micros k = IsOver micros (k + 1) kind.BranchLtu
+IsWhole stride.AddImmThenOverGeu micros k = IsOver micros (k + 1) kind.BranchGeu
+IsWhole stride.AddImmThenPollOverEq micros k = IsPollOver micros (k + 1) kind.BranchEq
+IsWhole stride.AddImmThenPollOverNe micros k = IsPollOver micros (k + 1) kind.BranchNe
+IsWhole stride.AddImmThenPollOverLt micros k = IsPollOver micros (k + 1) kind.BranchLt
+IsWhole stride.AddImmThenPollOverGe micros k = IsPollOver micros (k + 1) kind.BranchGe
+IsWhole stride.AddImmThenPollOverLtu micros k = IsPollOver micros (k + 1) kind.BranchLtu
+IsWhole stride.AddImmThenPollOverGeu micros k = IsPollOver micros (k + 1) kind.BranchGeu
+IsWhole stride.AddThenOverEq micros k = IsOver micros (k + 1) kind.BranchEq
+IsWhole stride.AddThenOverNe micros k = IsOver micros (k + 1) kind.BranchNe
+IsWhole stride.AddThenOverLt micros k = IsOver micros (k + 1) kind.BranchLt
+IsWhole stride.AddThenOverGe micros k = IsOver micros (k + 1) kind.BranchGe
+IsWhole stride.AddThenOverLtu micros k = IsOver micros (k + 1) kind.BranchLtu
+IsWhole stride.AddThenOverGeu micros k = IsOver micros (k + 1) kind.BranchGeu
+IsWhole stride.AddThenPollOverEq micros k = IsPollOver micros (k + 1) kind.BranchEq
+IsWhole stride.AddThenPollOverNe micros k = IsPollOver micros (k + 1) kind.BranchNe
+IsWhole stride.AddThenPollOverLt micros k = IsPollOver micros (k + 1) kind.BranchLt
+IsWhole stride.AddThenPollOverGe micros k = IsPollOver micros (k + 1) kind.BranchGe
+IsWhole stride.AddThenPollOverLtu micros k = IsPollOver micros (k + 1) kind.BranchLtu
+IsWhole stride.AddThenPollOverGeu micros k = IsPollOver micros (k + 1) kind.BranchGeu
 IsWhole is micros k = Unit {0}
 
 -- what a stride says of the words from its own on

@@ -40,10 +40,101 @@ fn stride_at(micros: &[MicroOp], k: usize) -> StrideKind
     requires here { k < length micros.now }
     ensures { IsStride micros.now k result }
 {
+    let first = alone_at(micros, k);
+    if k + 1 == micros.len() {
+        return first;
+    }
+    match first {
+        StrideKind::AddImm => add_imm_then(alone_at(micros, k + 1)),
+        StrideKind::Add => add_then(alone_at(micros, k + 1)),
+        StrideKind::SllImm => sll_imm_then(alone_at(micros, k + 1)),
+        StrideKind::Mul => mul_then(alone_at(micros, k + 1)),
+        _ => first,
+    }
+}
+
+/// The stride of the word of a number, without the one behind it.
+fn alone_at(micros: &[MicroOp], k: usize) -> StrideKind
+    requires few { length micros.now ≤ most_words }
+    requires here { k < length micros.now }
+    ensures { IsStride micros.now k result }
+{
     let op = word(micros, k);
     match whole_at(micros, k, &op) {
         Some(kind) => kind,
         None => StrideKind::plain(&op),
+    }
+}
+
+/// A sum with a number, and what stands behind it, where both are executed at once.
+fn add_imm_then(second: StrideKind) -> StrideKind
+    ensures { (micros : List MicroOp) (k : ℕ) → IsStride micros k StrideKind.AddImm
+        → IsStride micros (k + 1) second → IsStride micros k result }
+{
+    match second {
+        StrideKind::AddImm => StrideKind::AddImmThenAddImm,
+        StrideKind::Add => StrideKind::AddImmThenAdd,
+        StrideKind::OverEq => StrideKind::AddImmThenOverEq,
+        StrideKind::OverNe => StrideKind::AddImmThenOverNe,
+        StrideKind::OverLt => StrideKind::AddImmThenOverLt,
+        StrideKind::OverGe => StrideKind::AddImmThenOverGe,
+        StrideKind::OverLtu => StrideKind::AddImmThenOverLtu,
+        StrideKind::OverGeu => StrideKind::AddImmThenOverGeu,
+        StrideKind::PollOverEq => StrideKind::AddImmThenPollOverEq,
+        StrideKind::PollOverNe => StrideKind::AddImmThenPollOverNe,
+        StrideKind::PollOverLt => StrideKind::AddImmThenPollOverLt,
+        StrideKind::PollOverGe => StrideKind::AddImmThenPollOverGe,
+        StrideKind::PollOverLtu => StrideKind::AddImmThenPollOverLtu,
+        StrideKind::PollOverGeu => StrideKind::AddImmThenPollOverGeu,
+        _ => StrideKind::AddImm,
+    }
+}
+
+/// A sum of two registers, and what stands behind it, where both are executed at once.
+fn add_then(second: StrideKind) -> StrideKind
+    ensures { (micros : List MicroOp) (k : ℕ) → IsStride micros k StrideKind.Add
+        → IsStride micros (k + 1) second → IsStride micros k result }
+{
+    match second {
+        StrideKind::AddImm => StrideKind::AddThenAddImm,
+        StrideKind::Add => StrideKind::AddThenAdd,
+        StrideKind::OverEq => StrideKind::AddThenOverEq,
+        StrideKind::OverNe => StrideKind::AddThenOverNe,
+        StrideKind::OverLt => StrideKind::AddThenOverLt,
+        StrideKind::OverGe => StrideKind::AddThenOverGe,
+        StrideKind::OverLtu => StrideKind::AddThenOverLtu,
+        StrideKind::OverGeu => StrideKind::AddThenOverGeu,
+        StrideKind::PollOverEq => StrideKind::AddThenPollOverEq,
+        StrideKind::PollOverNe => StrideKind::AddThenPollOverNe,
+        StrideKind::PollOverLt => StrideKind::AddThenPollOverLt,
+        StrideKind::PollOverGe => StrideKind::AddThenPollOverGe,
+        StrideKind::PollOverLtu => StrideKind::AddThenPollOverLtu,
+        StrideKind::PollOverGeu => StrideKind::AddThenPollOverGeu,
+        _ => StrideKind::Add,
+    }
+}
+
+/// A shift to the left by a number, and what stands behind it, where both are executed at once.
+fn sll_imm_then(second: StrideKind) -> StrideKind
+    ensures { (micros : List MicroOp) (k : ℕ) → IsStride micros k StrideKind.SllImm
+        → IsStride micros (k + 1) second → IsStride micros k result }
+{
+    match second {
+        StrideKind::AddImm => StrideKind::SllImmThenAddImm,
+        StrideKind::Add => StrideKind::SllImmThenAdd,
+        _ => StrideKind::SllImm,
+    }
+}
+
+/// A product, and what stands behind it, where both are executed at once.
+fn mul_then(second: StrideKind) -> StrideKind
+    ensures { (micros : List MicroOp) (k : ℕ) → IsStride micros k StrideKind.Mul
+        → IsStride micros (k + 1) second → IsStride micros k result }
+{
+    match second {
+        StrideKind::AddImm => StrideKind::MulThenAddImm,
+        StrideKind::Add => StrideKind::MulThenAdd,
+        _ => StrideKind::Mul,
     }
 }
 

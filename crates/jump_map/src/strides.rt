@@ -1,7 +1,8 @@
 //! Strides: what is executed at once from a word of an image on.
 //!
-//! That is one word, or a whole sequence of which the word is the first. Each word has a kind of
-//! stride, so a machine may begin anywhere. The operands stay with the micro-ops of the words.
+//! That is one word, or a whole sequence of which the word is the first, or a pair: an operation
+//! and what stands behind it. Each word has a kind of stride, so a machine may begin anywhere. The
+//! operands stay with the micro-ops of the words.
 
 ghost use Rattle.std.specs.Prelude.{ℕ, List};
 ghost use Rattle.micro_op.specs.declared.micro_op.MicroOp.{MicroOp};
@@ -127,6 +128,43 @@ pub enum StrideKind {
     WriteHead1,
     WriteHead2,
     WriteHead3,
+    /// Two operations, of which the second is a sum.
+    AddImmThenAddImm,
+    AddImmThenAdd,
+    AddThenAddImm,
+    AddThenAdd,
+    SllImmThenAddImm,
+    SllImmThenAdd,
+    MulThenAddImm,
+    MulThenAdd,
+    /// A sum with a number, and a branch past the jump behind it, with that jump.
+    AddImmThenOverEq,
+    AddImmThenOverNe,
+    AddImmThenOverLt,
+    AddImmThenOverGe,
+    AddImmThenOverLtu,
+    AddImmThenOverGeu,
+    /// A sum with a number, a poll, and such a branch and jump.
+    AddImmThenPollOverEq,
+    AddImmThenPollOverNe,
+    AddImmThenPollOverLt,
+    AddImmThenPollOverGe,
+    AddImmThenPollOverLtu,
+    AddImmThenPollOverGeu,
+    /// A sum of two registers, and a branch past the jump behind it, with that jump.
+    AddThenOverEq,
+    AddThenOverNe,
+    AddThenOverLt,
+    AddThenOverGe,
+    AddThenOverLtu,
+    AddThenOverGeu,
+    /// A sum of two registers, a poll, and such a branch and jump.
+    AddThenPollOverEq,
+    AddThenPollOverNe,
+    AddThenPollOverLt,
+    AddThenPollOverGe,
+    AddThenPollOverLtu,
+    AddThenPollOverGeu,
 }
 
 impl StrideKind {
