@@ -212,11 +212,22 @@ first_lines laws s valid first count of = record {
       (e.0, omega (arith, p, low));
 }
 
+-- the state byte of a line that isn't shared is that of its class
+class_state : (e : Elf) (states : States) (copy : Copy) (line : ℕ) → HasLines e states copy
+    → is_shared copy.layout line ≡ false → line_byte states line ≡ first_state (class_of_line e line) false
+class_state e states copy line h out =
+    let none : block_of states.layout line ≡ None = block_none states.layout line (ap (λ (z : Shape). is_shared z line) h.one ∙ out) in
+    ap (line_byte_in states line) none ∙ h.others line out
+
 -- the state byte of a read-only line
 pub fixed_byte : (e : Elf) (states : States) (copy : Copy) (m : LineBytes) (line : ℕ) → HasLines e states copy → HasFixed e m
     → is_shared copy.layout line ≡ false → is_some (lines_place m.ranges line) ≡ true → 5 ≡ line_byte states line
 fixed_byte e states copy m line h fixed out there =
-    let class = fixed_place e m line fixed there in
-    let none : block_of states.layout line ≡ None = block_none states.layout line (ap (λ (z : Shape). is_shared z line) h.one ∙ out) in
-    let byte = ap (line_byte_in states line) none ∙ h.others line out in
-    sym (byte ∙ ap (λ (k : Class). first_state k false) class)
+    sym (class_state e states copy line h out ∙ ap (λ (k : Class). first_state k false) (fixed_place e m line fixed there))
+
+-- the state byte of a private line
+pub private_byte : (e : Elf) (states : States) (copy : Copy) (line : ℕ) → HasLines e states copy
+    → class_of_line e line ≡ class.Private → 0 ≡ line_byte states line
+private_byte e states copy line h is =
+    let out : is_shared copy.layout line ≡ false = h.shared line ∙ ap is_shared_class is in
+    sym (class_state e states copy line h out ∙ ap (λ (k : Class). first_state k false) is)

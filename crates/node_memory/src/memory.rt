@@ -3,7 +3,7 @@
 ghost use Rattle.std.specs.Prelude.{◌≡◌, ◌+◌, ◌*◌, ◌/◌, ◌%◌, ◌^◌, ◌<◌, ◌≤◌, ℕ, true, false, Some};
 ghost use Rattle.std.specs.Prelude.{None, MatchOption, IfSome, bit_and, bit_or, length};
 ghost use Rattle.std.specs.Option.{option_to_list};
-ghost use Rattle.exec_map.specs.Contents.{program_of, first_byte};
+ghost use Rattle.exec_map.specs.Contents.{program_of, first_byte, is_private};
 ghost use Rattle.exec_map.specs.rv32_program.declared.Class.TheVariants.{Shared, ReadOnly};
 ghost use Rattle.exec_map.specs.rv32_program.Program.{class_at};
 ghost use Rattle.rv32_decode.specs.Widths.{is_aligned};
@@ -23,13 +23,13 @@ ghost use Rattle.node_memory.specs.Shelf.{IsLoaded};
 
 use block_layout::{Block, Layout, Lines, layout_law};
 use buf_pool::Pool;
-use exec_map::Program;
 use exec_map::byte_range::LineMemory;
+use exec_map::{PRIVATE_FIRST, Program};
 use node_model::dsm_messages::{Message, Need, Post};
 use node_model::flag_memory::{Copy32, copy_law};
 use node_model::llsc::Reservation;
 use node_model::miss_handlers::Waits;
-use node_model::state_table::{READ_ONLY, State, States};
+use node_model::state_table::{EXCLUSIVE, READ_ONLY, State, States};
 use rv32_decode::Width;
 use std::marker::Model;
 use std::mem::swap;
@@ -179,6 +179,11 @@ impl<'a> NodeMemory<'a> {
         requires { line < 2 ^ 26 }
         ensures { result ≡ (local_of self.now).state line }
     {
+        if is_private(line) {
+            // brings: the state byte of a private line
+            self.laws();
+            return EXCLUSIVE;
+        }
         match self.place(64 * line) {
             Some(at) => self.states.byte_at(line, at / 64),
             None => self.fixed_state(line),
@@ -477,6 +482,17 @@ impl<'a> NodeMemory<'a> {
             pool,
         )
     }
+}
+
+/// How many lines the private window has.
+const WINDOW_LINES: u32 = 0x400;
+
+/// Whether a line is one of the private window.
+#[inline(always)]
+fn is_private(line: u32) -> bool
+    ensures { result ≡ is_private line }
+{
+    PRIVATE_FIRST <= line && line < PRIVATE_FIRST + WINDOW_LINES
 }
 
 /// No more lines are taken for the first ones, but for those of one block.

@@ -18,7 +18,9 @@ use Rattle.node_memory.specs.Shelf.{Shelf, ground_of, local_of}
 use Rattle.node_words.specs.Kept.{lane_of}
 use Rattle.node_memory.specs.Shelf.{IsLoaded}
 use Rattle.node_words.specs.Strides.{Gives, IsStored, IsStoredOr}
+use Rattle.node_memory.specs.Blocks.{ShelfLaws}
 use Rattle.node_memory.proofs.MemoryLemmas.{raw_in_line, window_is_private}
+use Rattle.node_memory.proofs.ShelfLemmas.{private_byte}
 
 -- what the bytes of a line of a class make is what a load gives
 given : (b : ExecState) (k : LoadKind) (w : Width) (c : Class) (a n v : ℕ) → w ≡ width_of k → is_aligned w a ≡ true
@@ -60,6 +62,11 @@ pub window_gives : (b : ExecState) (k : LoadKind) (w : Width) (a n v : ℕ) → 
     → is_in_window a ≡ true → n ≡ raw w (window_memory b.lane.private) a → v ≡ extend k n → Gives b k a v
 window_gives b k w a n v is aligned inside bytes value =
     given b k w Private a n v is aligned (window_low a inside) (window_is_private b.local.program a inside) value bytes
+
+-- the state byte of a line of the window
+pub window_state : (s : Shelf) (a : ℕ) → ShelfLaws s → is_in_window a ≡ true → (local_of s).state (a / 64) ≡ 0
+window_state s a laws inside =
+    sym (private_byte s.program s.states s.copy (a / 64) laws.lines (window_is_private s.program a inside))
 
 -- 2. Stores
 

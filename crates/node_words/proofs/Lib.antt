@@ -10,4 +10,6 @@ pub mod SequenceLemmas
 pub mod FlagLemmas
 pub mod HeadLemmas
 pub mod WholeLemmas
+pub mod VisitLemmas
+pub mod TableLemmas
 pub use Rattle.node_memory.proofs as node_memory

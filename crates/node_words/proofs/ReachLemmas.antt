@@ -190,22 +190,27 @@ read_is program (Some (Far number)) place op k l m d is means =
     ∙ ap (native program (place_address place) l.at l m) (sym (demanded _ (Jumps 0 (address_of_word number)) d (is l.registers) means))
 read_is program (Some w) place op k l m d is means = absurd (slow_none op l.registers d is means)
 
-pub outcome_is : (c : Code) (k : ℕ) (op : MicroOp) (l : ProcessorState) (m : NodeMemory) (d : Demand)
-    → StandsAt c.micros k op → l.at ≡ word_address k → meaning_of image_base op l.registers ≡ Demands d
-    → (place : ℕ) × (next_outcome c.program c.image l m ≡ native c.program place l.at l m d)
-outcome_is c k op l m d stands here means =
-    let is = stands_in c k op stands in
-    let below = got_below c.image k is.cell is.there in
-    let few = c.few in
+pub outcome_at : (program : Program) (image : List Cell) (k : ℕ) (op : MicroOp) (l : ProcessorState) (m : NodeMemory)
+    (d : Demand) → length image ≤ most_words → IsMicroAt image k op → l.at ≡ word_address k
+    → meaning_of image_base op l.registers ≡ Demands d
+    → (place : ℕ) × (next_outcome program image l m ≡ native program place l.at l m d)
+outcome_at program image k op l m d few is here means =
+    let below = got_below image k is.cell is.there in
     let new : address_of_word k ≡ word_address k = omega (arith, below, few) in
     let micro : IsMicroWord l.at (read_cell is.cell).what op =
     subst (λ (x : ℕ). IsMicroWord x (read_cell is.cell).what op) (new ∙ sym here) is.micro in
-    let fetched : fetch c.image l.at ≡ Some (read_cell is.cell) =
-    ap (fetch c.image) here ∙ fetch_word c.image k is.cell few is.there in (
+    let fetched : fetch image l.at ≡ Some (read_cell is.cell) =
+    ap (fetch image) here ∙ fetch_word image k is.cell few is.there in (
       place_address is.cell.place,
-      ap (λ (f : Option ImageWord). execute_at c.program f l m) fetched
-          ∙ read_is c.program (read_cell is.cell).what is.cell.place op k l m d micro means,
+      ap (λ (f : Option ImageWord). execute_at program f l m) fetched
+          ∙ read_is program (read_cell is.cell).what is.cell.place op k l m d micro means,
     )
+
+outcome_is : (c : Code) (k : ℕ) (op : MicroOp) (l : ProcessorState) (m : NodeMemory) (d : Demand)
+    → StandsAt c.micros k op → l.at ≡ word_address k → meaning_of image_base op l.registers ≡ Demands d
+    → (place : ℕ) × (next_outcome c.program c.image l m ≡ native c.program place l.at l m d)
+outcome_is c k op l m d stands here means =
+    outcome_at c.program c.image k op l m d c.few (stands_in c k op stands) here means
 
 -- a word that a micro-op of the code demands
 pub reaches_by : (c : Code) (k : ℕ) (op : MicroOp) (l : ProcessorState) (m : NodeMemory) (l' : ProcessorState)

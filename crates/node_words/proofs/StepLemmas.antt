@@ -194,7 +194,7 @@ entry_steps image (EntersBy target) rd original at k place l s l' s' enters step
     subst (λ (x : ℕ). Follows image (indirect place (lane_of l (word_address at)) (local_of s) x original) (ground_of s) (word_address k) l' s') (sym enters.0)
     (subst (λ (x : ℕ). Follows image (indirect place (lane_of l (word_address at)) (local_of s) 0 x) (ground_of s) (word_address k) l' s') enters.1 (steps place))
 
-slow_steps : (image : List Cell) (op : MicroOp) (at k : ℕ) (l : kept.ProcessorState) (s : Shelf) (l' : kept.ProcessorState) (s' : Shelf) → op.kind ≡ Slow → StepsTo image (meaning_of image_base op (registers_of l.registers)) at l s l' s' (Some k) → ⊥
+pub slow_steps : (image : List Cell) (op : MicroOp) (at k : ℕ) (l : kept.ProcessorState) (s : Shelf) (l' : kept.ProcessorState) (s' : Shelf) → op.kind ≡ Slow → StepsTo image (meaning_of image_base op (registers_of l.registers)) at l s l' s' (Some k) → ⊥
 slow_steps image op at k l s l' s' is steps = subst (λ (q : MicroKind). StepsTo image (meaning_by q image_base op (registers_of l.registers)) at l s l' s' (Some k)) is steps
 
 -- a jump that keeps no link is a far jump

@@ -7,7 +7,7 @@ use Rattle.node_memory.specs.exec_map.Contents.{program_of}
 use Rattle.node_memory.specs.rv32_step.OneMemory.{next_pc}
 use Rattle.node_memory.specs.rv32_step.Registers.{put, registers_of}
 use Rattle.node_memory.specs.rv32_step.declared.Demand.{Demand}
-use Rattle.node_memory.specs.rv32_step.declared.Demand.TheVariants.{Jumps, Loads, Sets, Stores}
+use Rattle.node_memory.specs.rv32_step.declared.Demand.TheVariants.{Continues, Jumps, Loads, Sets, Stores}
 use Rattle.node_memory.specs.micro_op.declared.micro_op.MicroOp.{MicroOp}
 use Rattle.node_memory.specs.micro_op.declared.MicroKind.{MicroKind}
 use Rattle.node_memory.specs.micro_op.declared.MicroKind.TheVariants.{Jump}
@@ -38,6 +38,11 @@ sets b b' r v lane local = λ image at k is low place.
       local = ap local_of local;
       ground_same = ap ground_of local;
     })
+
+pub continues : (b : ExecState) → DoesNext b Continues b
+continues b = λ image at k is low place.
+    next_follows image (only_moves (lane_of b.lane (word_address at)) (local_of b.local) Next) (ground_of b.local) at k b.lane
+    b.local (omega (arith, is, low)) refl refl refl (record { lane = refl; local = refl; ground_same = refl })
 
 -- what a load gives is what it leaves
 pub load_leaves : (b b' : ExecState) (k : LoadKind) (r a v : ℕ) → Gives b k a v
@@ -102,7 +107,7 @@ steps_by image m d from to b b' means one low steps = record {
 -- the next one follows
 pub steps_next : (image : List Cell) (m : MicroOp) (d : Demand) (from to : Going) (b b' : ExecState)
     → meaning_of image_base m (registers_of b.lane.registers) ≡ Demands d → to.left + 1 ≡ from.left
-    → to.at ≡ from.at + 1 → from.at < most_words → DoesNext b d b' → StepsBy image m from b to b'
+    → to.at ≡ from.at + 1 → from.at ≤ most_words → DoesNext b d b' → StepsBy image m from b to b'
 steps_next image m d from to b b' means one next low does =
     let below : to.at < 2 ^ 32 = omega (arith, next, low) in
     steps_by image m d from to b b' means one below (does image from.at to.at next below)
@@ -180,3 +185,22 @@ tried_after false image from mid to b m b' stays still = record {
   lane = still.lane ∙ stays.lane;
   local = still.local ∙ stays.local;
 }
+
+-- 5. A stride, and one behind it
+
+pub strides_both : (image : List Cell) (from mid to : Going) (b m b' : ExecState) → StridesBy image from b mid m
+    → StridesBy image mid m to b' → StridesBy image from b to b'
+strides_both image from mid to b m b' one two =
+    let first = one.some in
+    let second = two.some in
+    record {
+      some = omega (arith, first, second);
+      low = two.low;
+      goes = λ words.
+          let sum : words + (from.left - mid.left) + (mid.left - to.left) ≡ words + (from.left - to.left) =
+          omega (arith, first, second) in
+          subst (λ (n : ℕ). GoesFurther image b from.at words b' to.at n) sum
+          (goes_both image from.at words mid.at (words + (from.left - mid.left)) to.at
+          (words + (from.left - mid.left) + (mid.left - to.left)) b m b' (one.goes words)
+          (two.goes (words + (from.left - mid.left))));
+    }

@@ -23,9 +23,10 @@ use Rattle.node_words.specs.GoingOn.{GoesFurther}
 use Rattle.node_memory.specs.Shelf.{ground_of, local_of}
 use Rattle.node_words.specs.Kept.{StepsTo, lane_of}
 use Rattle.node_words.specs.declared.strides.Going.{Going}
-use Rattle.node_words.specs.Strides.{Gives, IsStored, StridesBy, left_by_check, left_by_head, left_one, state_at}
+use Rattle.node_words.specs.Strides.{Gives, IsStored, IsTried, StepsBy, StridesBy, left_by_check, left_by_head, left_one, state_at}
 use Rattle.node_words.proofs.StepLemmas.{got_below, micro_step}
 use Rattle.node_words.proofs.WordLemmas.{goes_both, goes_none, goes_one}
+use Rattle.node_words.proofs.StrideLemmas.{stride_of_one, strides_both, tried_stride}
 use Rattle.node_words.proofs.ReachLemmas.{Code, Reaches, reaches_both, reaches_further, stands_in}
 use Rattle.node_words.proofs.SequenceLemmas.{jump_behind_reaches, jump_reaches, number_reaches, over_reaches, placed, poll_reaches, read_reaches, write_reaches}
 use Rattle.node_words.proofs.FlagLemmas.{flag_reaches}
@@ -326,3 +327,27 @@ stands_low c k m stands =
     let below = got_below c.image k is.cell is.there in
     let few = c.few in
     omega (arith, below, few)
+
+-- an operation, and a stride behind it
+
+pub op_then : (c : Code) (op : MicroOp) (from mid to : Going) (b m b' : ExecState) (t t' : Bool)
+    → StandsAt c.micros from.at op → t ≡ true → t' ≡ true
+    → IsTried t (StepsBy c.image op from b mid m) from b mid m
+    → IsTried t' (StridesBy c.image mid m to b') mid m to b' → IsTried t' (StridesBy c.image from b to b') from b to b'
+op_then c op from mid to b m b' t t' here done also first second =
+    let one = subst (λ (r : Bool). IsTried r (StepsBy c.image op from b mid m) from b mid m) done first in
+    let two = subst (λ (r : Bool). IsTried r (StridesBy c.image mid m to b') mid m to b') also second in
+    subst (λ (r : Bool). IsTried r (StridesBy c.image from b to b') from b to b') (sym also)
+    (strides_both c.image from mid to b m b'
+    (stride_of_one c.image op from mid b m c.few (stands_in c from.at op here) one) two)
+
+-- and where that is another operation
+pub op_then_op : (c : Code) (op next found : MicroOp) (from mid to : Going) (b m b' : ExecState) (t t' : Bool)
+    → StandsAt c.micros from.at op → StandsAt c.micros (from.at + 1) next → found ≡ next → mid.at ≡ from.at + 1
+    → t ≡ true → t' ≡ true → IsTried t (StepsBy c.image op from b mid m) from b mid m
+    → IsTried t' (StepsBy c.image found mid m to b') mid m to b' → IsTried t' (StridesBy c.image from b to b') from b to b'
+op_then_op c op next found from mid to b m b' t t' here behind is place done also first second =
+    let there = subst (λ (k : ℕ). StandsAt c.micros k found) (sym place)
+    (subst (λ (x : MicroOp). StandsAt c.micros (from.at + 1) x) (sym is) behind) in
+    op_then c op from mid to b m b' t t' here done also first
+    (tried_stride t' c.image found mid to m b' c.few (stands_in c mid.at found there) second)

@@ -6,6 +6,8 @@ use Rattle.rv32_decode.specs.Widths.{is_aligned, width_of}
 use Rattle.node_memory.specs.exec_map.Contents.{program_of}
 use Rattle.node_memory.specs.rv32_step.Memory.{load_value}
 use Rattle.node_memory.specs.rv32_step.Registers.{reg, registers_of}
+use Rattle.node_memory.specs.micro_op.declared.MicroKind.{MicroKind}
+use Rattle.node_memory.specs.micro_op.declared.MicroKind.TheVariants as kind
 use Rattle.node_memory.specs.micro_op.declared.micro_op.MicroOp.{MicroOp}
 use Rattle.node_memory.specs.micro_op.Micro.{meaning_of}
 use Rattle.node_memory.specs.jump_map.Image.{Cell, image_base, most_words}
@@ -49,6 +51,11 @@ abbrev pub IsStriddenBy : List MicroOp → Bool → Going → ExecState → Goin
 IsStriddenBy micros result from b to b' =
     (image : List Cell) → length image ≤ most_words → AreMicrosOf image micros
     → IsTried result (StridesBy image from b to b') from b to b'
+
+-- the kind of a sum of two registers, or of a register and a number
+abbrev pub add_kind : (registers : Bool) → MicroKind
+add_kind true = kind.Add
+add_kind false = kind.AddImm
 
 -- what a load from an address gives, where that is aligned and below the state table
 pub record Gives (b : ExecState) (k : LoadKind) (a value : ℕ) : Type 0 where

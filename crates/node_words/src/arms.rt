@@ -6,11 +6,12 @@
 ghost use Rattle.std.specs.Prelude.{◌≡◌, ◌≢◌, ◌+◌, ◌*◌, ◌/◌, ◌^◌, ◌<◌, ◌≤◌, ℕ, List, Some};
 ghost use Rattle.std.specs.Prelude.{IfSome, true, false};
 ghost use Rattle.rv32_decode.specs.declared.LoadKind.{LoadKind};
-ghost use Rattle.node_memory.specs.byte_range.Window.{is_in_window};
 ghost use Rattle.rv32_ops.specs.Operations as operations;
 ghost use Rattle.node_memory.specs.rv32_step.Registers.{reg, registers_of};
-ghost use Rattle.node_memory.specs.rv32_step.declared.Demand.TheVariants.{Jumps, Loads, Sets};
+ghost use Rattle.node_memory.specs.rv32_step.declared.Demand.TheVariants.{Continues, Jumps};
+ghost use Rattle.node_memory.specs.rv32_step.declared.Demand.TheVariants.{Loads, Sets};
 ghost use Rattle.node_memory.specs.micro_op.Micro as micro;
+ghost use Rattle.node_memory.specs.micro_op.declared.MicroKind.TheVariants as micro_kind;
 ghost use Rattle.node_memory.specs.micro_op.Micro.{Demands, Enters, meaning_of, sum_address};
 ghost use Rattle.node_memory.specs.jump_map.Image.{Cell, image_base, most_words};
 ghost use Rattle.node_memory.specs.node_model.Node as model;
@@ -18,30 +19,44 @@ ghost use Rattle.node_memory.specs.node_model.Node.{set_register};
 ghost use Rattle.node_words.specs.Address.{word_address};
 ghost use Rattle.node_words.specs.GoingOn.{DoesNext};
 ghost use Rattle.node_memory.specs.exec_map.Contents.{program_of};
-ghost use Rattle.rv32_decode.specs.Widths.{is_aligned};
+ghost use Rattle.rv32_decode.specs.Widths.{is_aligned, width_of};
 ghost use Rattle.node_memory.specs.Shelf.{ground_of, local_of};
 ghost use Rattle.node_words.specs.Kept.{LeavesBehind, StepsTo, lane_of};
 ghost use Rattle.node_words.specs.Strides.{Gives, IsStored, IsStoredOr, IsTried, StepsBy};
+ghost use Rattle.node_words.specs.Strides.{add_kind};
 ghost use Rattle.node_words.specs.UndoLogs.{StaysUndoable};
 
-use crate::exec_state::ExecState;
+use crate::exec_state::{ExecState, is_in_window};
 use crate::lane::address_of;
 use crate::strides::Going;
-use node_memory::byte_range::WINDOW_START;
 use node_memory::jump_map::{IMAGE_BASE, Image};
 use node_memory::micro_op::MicroOp;
 use node_memory::runtime_words::FLAG_WORD;
 use node_memory::{is_readable, is_writable};
 use rv32_decode::{Cond, LoadKind, Op, Width};
 use rv32_ops::{alu, extend, taken};
-use rv32_program::addresses::MEMORY_END;
 
 impl<'a> ExecState<'a> {
+    /// A word that changes nothing.
+    #[inline(always)]
+    pub(crate) fn nothing(&self, op: &MicroOp, going: &mut Going) -> bool
+        requires room { 0 < going.old.left }
+        requires low { going.old.at ≤ most_words }
+        requires means { meaning_of image_base op.now (registers_of self.now.lane.registers)
+            ≡ Demands Continues }
+        ensures tried { (image : List Cell) → IsTried result
+            (StepsBy image op.now going.old self.now going.new self.now)
+            going.old self.now going.new self.now }
+    {
+        going.on(1, 1);
+        true
+    }
+
     /// Puts a number into a register.
     #[inline(always)]
     pub(crate) fn constant(&mut self, op: &MicroOp, going: &mut Going) -> bool
         requires room { 0 < going.old.left }
-        requires low { going.old.at < most_words }
+        requires low { going.old.at ≤ most_words }
         requires means { meaning_of image_base op.now (registers_of self.old.lane.registers)
             ≡ Demands (Sets op.now.rd op.now.imm) }
         ensures tried { (image : List Cell) → IsTried result
@@ -60,7 +75,7 @@ impl<'a> ExecState<'a> {
     #[inline(always)]
     pub(crate) fn by_immediate(&mut self, o: Op, op: &MicroOp, going: &mut Going) -> bool
         requires room { 0 < going.old.left }
-        requires low { going.old.at < most_words }
+        requires low { going.old.at ≤ most_words }
         requires means { meaning_of image_base op.now (registers_of self.old.lane.registers)
             ≡ micro.by_immediate o op.now (registers_of self.old.lane.registers) }
         ensures tried { (image : List Cell) → IsTried result
@@ -69,6 +84,9 @@ impl<'a> ExecState<'a> {
         ensures counts { self.new.counts ≡ self.old.counts }
         ensures log { self.new.log ≡ self.old.log }
         ensures undoable { StaysUndoable self.old self.new }
+        ensures next { going.new.at ≡ going.old.at + 1 }
+        ensures left { going.new.left + 1 ≡ going.old.left }
+        ensures done { result ≡ true }
     {
         let value = alu(o, self.lane.registers.get(op.rs1), op.imm);
         self.lane.registers.set(op.rd, value);
@@ -80,7 +98,7 @@ impl<'a> ExecState<'a> {
     #[inline(always)]
     pub(crate) fn by_registers(&mut self, o: Op, op: &MicroOp, going: &mut Going) -> bool
         requires room { 0 < going.old.left }
-        requires low { going.old.at < most_words }
+        requires low { going.old.at ≤ most_words }
         requires means { meaning_of image_base op.now (registers_of self.old.lane.registers)
             ≡ micro.by_registers o op.now (registers_of self.old.lane.registers) }
         ensures tried { (image : List Cell) → IsTried result
@@ -89,6 +107,9 @@ impl<'a> ExecState<'a> {
         ensures counts { self.new.counts ≡ self.old.counts }
         ensures log { self.new.log ≡ self.old.log }
         ensures undoable { StaysUndoable self.old self.new }
+        ensures next { going.new.at ≡ going.old.at + 1 }
+        ensures left { going.new.left + 1 ≡ going.old.left }
+        ensures done { result ≡ true }
     {
         let a = self.lane.registers.get(op.rs1);
         let value = alu(o, a, self.lane.registers.get(op.rs2));
@@ -97,11 +118,33 @@ impl<'a> ExecState<'a> {
         true
     }
 
+    /// A sum of two registers, or of a register and the immediate.
+    #[inline(always)]
+    pub(crate) fn add(&mut self, registers: bool, op: &MicroOp, going: &mut Going) -> bool
+        requires room { 0 < going.old.left }
+        requires low { going.old.at ≤ most_words }
+        requires is { op.now.kind ≡ add_kind registers }
+        ensures tried { (image : List Cell) → IsTried result
+            (StepsBy image op.now going.old self.old going.new self.new)
+            going.old self.old going.new self.new }
+        ensures next { going.new.at ≡ going.old.at + 1 }
+        ensures left { going.new.left + 1 ≡ going.old.left }
+        ensures done { result ≡ true }
+        ensures counts { self.new.counts ≡ self.old.counts }
+        ensures undoable { StaysUndoable self.old self.new }
+    {
+        if registers {
+            self.by_registers(Op::Add, op, going)
+        } else {
+            self.by_immediate(Op::Add, op, going)
+        }
+    }
+
     /// A slow operation on two registers.
     #[inline(always)]
     pub(crate) fn by_slow(&mut self, o: Op, op: &MicroOp, going: &mut Going) -> bool
         requires room { 0 < going.old.left }
-        requires low { going.old.at < most_words }
+        requires low { going.old.at ≤ most_words }
         requires means { meaning_of image_base op.now (registers_of self.old.lane.registers)
             ≡ micro.by_registers o op.now (registers_of self.old.lane.registers) }
         ensures tried { (image : List Cell) → IsTried result
@@ -134,22 +177,35 @@ impl<'a> ExecState<'a> {
 
     /// A jump that keeps no link, where it is the last of so many words.
     #[inline(always)]
-    pub(crate) fn jump(&self, words: u64, op: &MicroOp, going: &mut Going) -> bool
+    pub(crate) fn jump(&self, words: u32, op: &MicroOp, going: &mut Going) -> bool
         requires room { words ≤ going.old.left }
         ensures left { going.new.left + words ≡ going.old.left }
         ensures at { going.new.at ≡ op.now.imm }
         ensures low { going.new.at < 2 ^ 32 }
         ensures done { result ≡ true }
     {
-        going.to(words, op.imm);
+        going.to(words, op.imm as usize);
         true
+    }
+
+    /// A jump that keeps no link, by itself.
+    #[inline(always)]
+    pub(crate) fn jump_by(&self, op: &MicroOp, going: &mut Going) -> bool
+        requires room { 0 < going.old.left }
+        requires is { op.now.kind ≡ micro_kind.Jump }
+        requires keeps_none { op.now.rd ≡ 0 }
+        ensures tried { (image : List Cell) → IsTried result
+            (StepsBy image op.now going.old self.now going.new self.now)
+            going.old self.now going.new self.now }
+    {
+        self.jump(1, op, going)
     }
 
     /// A jump that keeps the address of the next word in a register.
     #[inline(always)]
     pub(crate) fn link(&mut self, op: &MicroOp, going: &mut Going) -> bool
         requires room { 0 < going.old.left }
-        requires low { going.old.at < most_words }
+        requires low { going.old.at ≤ most_words }
         requires means { meaning_of image_base op.now (registers_of self.old.lane.registers)
             ≡ Demands (Jumps op.now.rd (word_address op.now.imm)) }
         ensures tried { (image : List Cell) → IsTried result
@@ -159,15 +215,15 @@ impl<'a> ExecState<'a> {
         ensures log { self.new.log ≡ self.old.log }
         ensures undoable { StaysUndoable self.old self.new }
     {
-        let next = address_of(going.at + 1);
+        let next = address_of(going.at as u32 + 1);
         self.lane.registers.set(op.rd, next);
-        going.to(1, op.imm);
+        going.to(1, op.imm as usize);
         true
     }
 
     /// Enters the sequence of an original address, where it is the last of so many words.
     #[inline(always)]
-    pub(crate) fn enter(&self, words: u64, op: &MicroOp, image: &Image, going: &mut Going) -> bool
+    pub(crate) fn enter(&self, words: u32, op: &MicroOp, image: &Image, going: &mut Going) -> bool
         requires room { words ≤ going.old.left }
         ensures left { result ≡ true → going.new.left + words ≡ going.old.left }
         ensures steps { result ≡ true → (at : ℕ) → StepsTo image.now
@@ -182,18 +238,31 @@ impl<'a> ExecState<'a> {
         }
         match image.new_of(original) {
             Some(new) => {
-                going.to(words, (new - IMAGE_BASE) / 4);
+                going.to(words, ((new - IMAGE_BASE) / 4) as usize);
                 true
             }
             None => false,
         }
     }
 
+    /// An indirect jump, by itself.
+    #[inline(always)]
+    pub(crate) fn enter_by(&self, op: &MicroOp, image: &Image, going: &mut Going) -> bool
+        requires room { 0 < going.old.left }
+        requires means { meaning_of image_base op.now (registers_of self.now.lane.registers)
+            ≡ Enters (sum_address op.now (registers_of self.now.lane.registers) / 2 * 2) }
+        ensures tried { IsTried result
+            (StepsBy image.now op.now going.old self.now going.new self.now)
+            going.old self.now going.new self.now }
+    {
+        self.enter(1, op, image, going)
+    }
+
     /// A branch.
     #[inline(always)]
     pub(crate) fn branch(&self, c: Cond, op: &MicroOp, going: &mut Going) -> bool
         requires room { 0 < going.old.left }
-        requires low { going.old.at < most_words }
+        requires low { going.old.at ≤ most_words }
         requires means { meaning_of image_base op.now (registers_of self.now.lane.registers)
             ≡ micro.branches c image_base op.now (registers_of self.now.lane.registers) }
         ensures tried { (image : List Cell) → IsTried result
@@ -201,7 +270,7 @@ impl<'a> ExecState<'a> {
             going.old self.now going.new self.now }
     {
         if self.holds(c, op) {
-            going.to(1, op.imm);
+            going.to(1, op.imm as usize);
         } else {
             going.on(1, 1);
         }
@@ -212,7 +281,7 @@ impl<'a> ExecState<'a> {
     #[inline(always)]
     pub(crate) fn load_by(&mut self, kind: LoadKind, op: &MicroOp, going: &mut Going) -> bool
         requires room { 0 < going.old.left }
-        requires low { going.old.at < most_words }
+        requires low { going.old.at ≤ most_words }
         requires means { meaning_of image_base op.now (registers_of self.old.lane.registers)
             ≡ micro.loads kind op.now (registers_of self.old.lane.registers) }
         ensures tried { (image : List Cell) → IsTried result
@@ -242,7 +311,7 @@ impl<'a> ExecState<'a> {
     /// Loads wherever the address lies, and says whether it does: not where it is misaligned, or
     /// neither of a line nor of the window.
     #[tactic(auto, using(crate::proofs::UndoLogLemmas::undoable_same))]
-    #[inline(never)]
+    #[inline(always)]
     fn load_far(&mut self, kind: LoadKind, op: &MicroOp) -> bool
         ensures does { result ≡ true → DoesNext self.old
             (Loads kind op.now.rd (sum_address op.now (registers_of self.old.lane.registers)))
@@ -266,7 +335,7 @@ impl<'a> ExecState<'a> {
     #[inline(always)]
     pub(crate) fn store_by(&mut self, width: Width, op: &MicroOp, going: &mut Going) -> bool
         requires room { 0 < going.old.left }
-        requires low { going.old.at < most_words }
+        requires low { going.old.at ≤ most_words }
         requires means { meaning_of image_base op.now (registers_of self.old.lane.registers)
             ≡ micro.stores width op.now (registers_of self.old.lane.registers) }
         ensures tried { (image : List Cell) → IsTried result
@@ -293,7 +362,7 @@ impl<'a> ExecState<'a> {
     }
 
     /// Stores wherever the address lies, and says whether it does.
-    #[inline(never)]
+    #[inline(always)]
     fn store_far(&mut self, width: Width, op: &MicroOp) -> bool
         ensures aligned { result ≡ is_aligned width
             (sum_address op.now (registers_of self.old.lane.registers)) }
@@ -352,15 +421,38 @@ impl<'a> ExecState<'a> {
         }
     }
 
-    /// What a load from an address gives where its line may be read, whichever line it is.
-    #[inline(never)]
+    /// What a load from an address gives where its line may be read, whichever line it is. Each
+    /// line of the window may be.
+    #[inline(always)]
     fn value_readable(&self, kind: LoadKind, address: u32) -> Option<u32>
         ensures value { IfSome result (Gives self.now kind address) }
         ensures readable { IfSome result (λ value.
             model.is_readable_state ((local_of self.now.local).state (address / 64)) ≡ true) }
     {
+        let width = kind.width();
+        if !width.is_aligned(address) {
+            return None;
+        }
+        match self.lane.private.load(width, address) {
+            Some(raw) => {
+                // brings: the state byte of a line of the window
+                self.local.laws();
+                Some(extend(kind, raw))
+            }
+            None => self.readable_outside(kind, address),
+        }
+    }
+
+    /// What a load from an aligned address outside the window gives, where its line may be read.
+    #[inline(never)]
+    fn readable_outside(&self, kind: LoadKind, address: u32) -> Option<u32>
+        requires { is_aligned (width_of kind) address ≡ true }
+        ensures value { IfSome result (Gives self.now kind address) }
+        ensures readable { IfSome result (λ value.
+            model.is_readable_state ((local_of self.now.local).state (address / 64)) ≡ true) }
+    {
         if is_readable(self.local.state(address / 64)) {
-            self.value_far(kind, address)
+            self.value_outside(kind, address)
         } else {
             None
         }
@@ -391,7 +483,7 @@ impl<'a> ExecState<'a> {
     }
 
     /// What a load from an address gives, whichever line it is.
-    #[inline(never)]
+    #[inline(always)]
     fn value_far(&self, kind: LoadKind, address: u32) -> Option<u32>
         ensures value { IfSome result (Gives self.now kind address) }
     {
@@ -399,13 +491,23 @@ impl<'a> ExecState<'a> {
         if !width.is_aligned(address) {
             return None;
         }
+        match self.lane.private.load(width, address) {
+            Some(raw) => Some(extend(kind, raw)),
+            None => self.value_outside(kind, address),
+        }
+    }
+
+    /// What a load from an aligned address outside the window gives.
+    #[inline(never)]
+    fn value_outside(&self, kind: LoadKind, address: u32) -> Option<u32>
+        requires { is_aligned (width_of kind) address ≡ true }
+        ensures value { IfSome result (Gives self.now kind address) }
+    {
+        let width = kind.width();
         if let Some(raw) = self.local.load_fixed(width, address) {
             return Some(extend(kind, raw));
         }
-        if let Some(raw) = self.local.load(width, address) {
-            return Some(extend(kind, raw));
-        }
-        match self.lane.private.load(width, address) {
+        match self.local.load(width, address) {
             Some(raw) => Some(extend(kind, raw)),
             None => None,
         }
@@ -428,8 +530,9 @@ impl<'a> ExecState<'a> {
         self.put_far(width, address, value)
     }
 
-    /// Stores at an address where its line may be written, whichever line it is.
-    #[inline(never)]
+    /// Stores at an address where its line may be written, whichever line it is. Each line of the
+    /// window may be.
+    #[inline(always)]
     fn put_far(&mut self, width: Width, address: u32, value: u32) -> bool
         ensures stores { IsStoredOr result (IsStored self.old width address value self.new)
             self.old self.new }
@@ -438,21 +541,32 @@ impl<'a> ExecState<'a> {
         ensures counts { self.new.counts ≡ self.old.counts }
         ensures log { self.new.log ≡ self.old.log }
     {
-        if !width.is_aligned(address) || !is_writable(self.local.state(address / 64)) {
+        if !width.is_aligned(address) {
             return false;
         }
         if is_in_window(address) {
+            // brings: the state byte of a line of the window
+            self.local.laws();
             let _ = self.lane.private.store(width, address, value);
             return true;
         }
+        self.put_outside(width, address, value)
+    }
+
+    /// Stores at an aligned address outside the window, where its line may be written.
+    #[inline(never)]
+    fn put_outside(&mut self, width: Width, address: u32, value: u32) -> bool
+        requires { is_aligned width address ≡ true }
+        ensures stores { IsStoredOr result (IsStored self.old width address value self.new)
+            self.old self.new }
+        ensures writable { result ≡ true →
+            model.is_writable_state ((local_of self.old.local).state (address / 64)) ≡ true }
+        ensures counts { self.new.counts ≡ self.old.counts }
+        ensures log { self.new.log ≡ self.old.log }
+    {
+        if !is_writable(self.local.state(address / 64)) {
+            return false;
+        }
         self.local.store(width, address, value)
     }
-}
-
-/// Whether an address is in the window.
-#[inline(always)]
-fn is_in_window(address: u32) -> bool
-    ensures { result ≡ is_in_window address }
-{
-    WINDOW_START <= address && address < MEMORY_END
 }

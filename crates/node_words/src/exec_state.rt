@@ -6,6 +6,7 @@ ghost use Rattle.rv32_program.specs.Program.{class_at};
 ghost use Rattle.rv32_program.specs.declared.Class.TheVariants.{Shared};
 ghost use Rattle.node_memory.specs.exec_map.Contents.{program_of};
 ghost use Rattle.node_memory.specs.byte_range.Memory.{raw};
+ghost use Rattle.node_memory.specs.byte_range.Window.{is_in_window};
 ghost use Rattle.node_memory.specs.rv32_step.Memory.{load_value};
 ghost use Rattle.node_memory.specs.node_model.Node as model;
 ghost use Rattle.node_memory.specs.Shelf.{ground_of, local_of};
@@ -14,12 +15,13 @@ ghost use Rattle.node_memory.specs.flag_memory.Flag.{flag_byte as flag_at};
 
 use crate::lane::ProcessorState;
 use crate::store_log::StoreLog;
+use node_memory::byte_range::WINDOW_START;
 use node_memory::node_model::NodeCounts;
 use node_memory::runtime_words::FLAG_WORD;
 use node_memory::{NodeMemory, Region, region_of};
 use rv32_decode::{LoadKind, Reg, Width};
 use rv32_ops::extend;
-use rv32_program::addresses::{SPILLS, STATE_LINES, STATE_TABLE};
+use rv32_program::addresses::{MEMORY_END, SPILLS, STATE_LINES, STATE_TABLE};
 
 /// A processor's part, what words see of their node, what the node counts, and what stores
 /// overwrite, where that is noted.
@@ -77,9 +79,26 @@ impl<'a> ExecState<'a> {
         self.lane.registers.set(rd, value);
     }
 
-    /// Loads from an aligned address, most often the state byte of a line.
+    /// Loads from an aligned address, most often one of the window.
     #[inline(always)]
     pub(crate) fn load_apart(&mut self, kind: LoadKind, rd: Reg, address: u32)
+        requires { is_aligned (width_of kind) address ≡ true }
+        ensures leaves { (at : ℕ) → LeavesBehind
+            (model.load (program_of self.old.local.program) (lane_of self.old.lane at)
+            (local_of self.old.local) kind rd address (model.region_of address))
+            (ground_of self.old.local) at self.new.lane self.new.local }
+        ensures counts { self.new.counts ≡ self.old.counts }
+        ensures log { self.new.log ≡ self.old.log }
+    {
+        match self.lane.private.load(kind.width(), address) {
+            Some(raw) => self.lane.registers.set(rd, extend(kind, raw)),
+            None => self.load_outside(kind, rd, address),
+        }
+    }
+
+    /// Loads from an aligned address outside the window, most often the state byte of a line.
+    #[inline(never)]
+    fn load_outside(&mut self, kind: LoadKind, rd: Reg, address: u32)
         requires { is_aligned (width_of kind) address ≡ true }
         ensures leaves { (at : ℕ) → LeavesBehind
             (model.load (program_of self.old.local.program) (lane_of self.old.lane at)
@@ -122,6 +141,24 @@ impl<'a> ExecState<'a> {
     /// Stores at an aligned address.
     #[inline(always)]
     pub(crate) fn store(&mut self, width: Width, address: u32, value: u32)
+        requires { is_aligned width address ≡ true }
+        ensures leaves { (at : ℕ) → LeavesBehind
+            (model.store (program_of self.old.local.program) (lane_of self.old.lane at)
+            (local_of self.old.local) width address value (model.region_of address))
+            (ground_of self.old.local) at self.new.lane self.new.local }
+        ensures counts { self.new.counts ≡ self.old.counts }
+        ensures log { self.new.log ≡ self.old.log }
+    {
+        if is_in_window(address) {
+            let _ = self.lane.private.store(width, address, value);
+        } else {
+            self.store_outside(width, address, value);
+        }
+    }
+
+    /// Stores at an aligned address outside the window.
+    #[inline(never)]
+    fn store_outside(&mut self, width: Width, address: u32, value: u32)
         requires { is_aligned width address ≡ true }
         ensures leaves { (at : ℕ) → LeavesBehind
             (model.store (program_of self.old.local.program) (lane_of self.old.lane at)
@@ -181,6 +218,14 @@ pub(crate) fn memory_of(
         Some(raw) => raw,
         None => flag(width, address),
     }
+}
+
+/// Whether an address is in the window.
+#[inline(always)]
+pub(crate) fn is_in_window(address: u32) -> bool
+    ensures { result ≡ is_in_window address }
+{
+    WINDOW_START <= address && address < MEMORY_END
 }
 
 /// Which of those words is at an address.

@@ -7,15 +7,18 @@ ghost use Rattle.std.specs.Prelude.{◌≡◌, ◌+◌, ◌%◌, ◌^◌, ◌<�
 ghost use Rattle.std.specs.Prelude.{bit_and, bit_or};
 ghost use Rattle.node_memory.specs.micro_op.Kinds.{branch_kind, kind_of_load, store_kind};
 ghost use Rattle.node_memory.specs.micro_op.declared.micro_op.MicroOp.{MicroOp};
-ghost use Rattle.node_memory.specs.jump_map.Image.{most_words};
+ghost use Rattle.node_memory.specs.micro_op.Micro as micro;
+ghost use Rattle.node_memory.specs.micro_op.Micro.{meaning_of};
+ghost use Rattle.node_memory.specs.rv32_step.Registers.{registers_of};
+ghost use Rattle.node_memory.specs.jump_map.Image.{image_base, most_words};
 ghost use Rattle.node_memory.specs.jump_map.Micro.{AreMicrosOf};
 ghost use Rattle.node_memory.specs.jump_map.Strides.{IsEntry, IsFlagged, IsHead, IsJump, IsNumber};
 ghost use Rattle.node_memory.specs.jump_map.Strides.{IsOver, IsPolled, IsRead, IsReadHead, IsWrite};
-ghost use Rattle.node_memory.specs.jump_map.Strides.{IsWriteHead, StandsAt};
+ghost use Rattle.node_memory.specs.jump_map.Strides.{IsWord, IsWriteHead, StandsAt};
 ghost use Rattle.node_memory.specs.node_model.Node.{set_register};
 ghost use Rattle.node_words.specs.Kept.{lane_of};
 ghost use Rattle.node_words.specs.Strides.{IsStriddenBy, IsTried, StridesBy, left_by_check};
-ghost use Rattle.node_words.specs.Strides.{left_by_head, left_one, state_at};
+ghost use Rattle.node_words.specs.Strides.{left_by_head, left_one, state_at, add_kind};
 ghost use Rattle.node_words.specs.UndoLogs.{StaysUndoable};
 
 use crate::exec_state::ExecState;
@@ -23,28 +26,106 @@ use crate::strides::Going;
 use node_memory::jump_map::Image;
 use node_memory::micro_op::MicroOp;
 use node_memory::runtime_words::FLAG_WORD;
-use rv32_decode::{Cond, LoadKind, Reg, Width};
+use rv32_decode::{Cond, LoadKind, Op, Reg, Width};
 use rv32_program::addresses::STATE_TABLE;
 
 impl<'a> ExecState<'a> {
     /// A branch past a jump, and that jump, behind so many words that change nothing.
     #[inline(always)]
     pub(crate) fn over(&self, c: Cond, behind: usize, micros: &[MicroOp], going: &mut Going) -> bool
-        requires room { 18 ≤ going.old.left }
-        requires low { going.old.at < most_words }
+        requires room { behind + 2 ≤ going.old.left }
+        requires low { going.old.at ≤ most_words }
         requires few { behind ≤ 1 }
         requires polls { (i : ℕ) → i < behind → IsPolled micros.now (going.old.at + i) }
         requires there { IsOver micros.now (going.old.at + behind) (branch_kind c) }
         ensures strides { IsStriddenBy micros.now result going.old self.now going.new self.now }
+        ensures done { result ≡ true }
     {
-        let first = going.at as usize + behind;
-        let words = behind as u64;
+        let first = going.at + behind;
+        let words = behind as u32;
         if self.holds(c, &micros[first]) {
-            going.on(words + 1, behind as u32 + 2);
+            going.on(words + 1, behind + 2);
         } else {
-            going.to(words + 2, micros[first + 1].imm);
+            going.to(words + 2, micros[first + 1].imm as usize);
         }
         true
+    }
+
+    /// An operation on a register and the immediate, and the sum behind it.
+    #[inline(always)]
+    pub(crate) fn by_immediate_then_add(
+        &mut self,
+        o: Op,
+        registers: bool,
+        op: &MicroOp,
+        micros: &[MicroOp],
+        going: &mut Going,
+    ) -> bool
+        requires room { 18 ≤ going.old.left }
+        requires low { going.old.at < most_words }
+        requires here { StandsAt micros.now going.old.at op.now }
+        requires means { meaning_of image_base op.now (registers_of self.old.lane.registers)
+            ≡ micro.by_immediate o op.now (registers_of self.old.lane.registers) }
+        requires sum { IsWord micros.now (going.old.at + 1) (add_kind registers) }
+        ensures strides { IsStriddenBy micros.now result going.old self.old going.new self.new }
+        ensures counts { self.new.counts ≡ self.old.counts }
+        ensures undoable { StaysUndoable self.old self.new }
+    {
+        let second = &micros[going.at + 1];
+        self.by_immediate(o, op, going);
+        self.add(registers, second, going)
+    }
+
+    /// An operation on two registers, and the sum behind it.
+    #[inline(always)]
+    pub(crate) fn by_registers_then_add(
+        &mut self,
+        o: Op,
+        registers: bool,
+        op: &MicroOp,
+        micros: &[MicroOp],
+        going: &mut Going,
+    ) -> bool
+        requires room { 18 ≤ going.old.left }
+        requires low { going.old.at < most_words }
+        requires here { StandsAt micros.now going.old.at op.now }
+        requires means { meaning_of image_base op.now (registers_of self.old.lane.registers)
+            ≡ micro.by_registers o op.now (registers_of self.old.lane.registers) }
+        requires sum { IsWord micros.now (going.old.at + 1) (add_kind registers) }
+        ensures strides { IsStriddenBy micros.now result going.old self.old going.new self.new }
+        ensures counts { self.new.counts ≡ self.old.counts }
+        ensures undoable { StaysUndoable self.old self.new }
+    {
+        let second = &micros[going.at + 1];
+        self.by_registers(o, op, going);
+        self.add(registers, second, going)
+    }
+
+    /// A sum, and behind it a branch past a jump, and that jump, behind so many words that change
+    /// nothing.
+    #[inline(always)]
+    pub(crate) fn add_then_over(
+        &mut self,
+        registers: bool,
+        c: Cond,
+        behind: usize,
+        op: &MicroOp,
+        micros: &[MicroOp],
+        going: &mut Going,
+    ) -> bool
+        requires room { 18 ≤ going.old.left }
+        requires low { going.old.at < most_words }
+        requires here { StandsAt micros.now going.old.at op.now }
+        requires sum { op.now.kind ≡ add_kind registers }
+        requires few { behind ≤ 1 }
+        requires polls { (i : ℕ) → i < behind → IsPolled micros.now (going.old.at + 1 + i) }
+        requires there { IsOver micros.now (going.old.at + 1 + behind) (branch_kind c) }
+        ensures strides { IsStriddenBy micros.now result going.old self.old going.new self.new }
+        ensures counts { self.new.counts ≡ self.old.counts }
+        ensures undoable { StaysUndoable self.old self.new }
+    {
+        self.add(registers, op, going);
+        self.over(c, behind, micros, going)
     }
 
     /// A poll and a jump.
@@ -55,7 +136,7 @@ impl<'a> ExecState<'a> {
         requires there { IsJump micros.now (going.old.at + 1) }
         ensures strides { IsStriddenBy micros.now result going.old self.now going.new self.now }
     {
-        self.jump(2, &micros[going.at as usize + 1], going)
+        self.jump(2, &micros[going.at + 1], going)
     }
 
     /// A poll and an indirect jump.
@@ -70,7 +151,7 @@ impl<'a> ExecState<'a> {
             (StridesBy image.now going.old self.now going.new self.now)
             going.old self.now going.new self.now }
     {
-        self.enter(2, &micros[going.at as usize + 1], image, going)
+        self.enter(2, &micros[going.at + 1], image, going)
     }
 
     /// Two words that put a number into a register.
@@ -99,7 +180,7 @@ impl<'a> ExecState<'a> {
         ensures undoable { StaysUndoable self.old self.new }
     {
         self.put_number(micros, going);
-        self.jump(3, &micros[going.at as usize + 2], going)
+        self.jump(3, &micros[going.at + 2], going)
     }
 
     /// Puts a number that two words have into a register.
@@ -114,8 +195,8 @@ impl<'a> ExecState<'a> {
         ensures counts { self.new.counts ≡ self.old.counts }
         ensures undoable { StaysUndoable self.old self.new }
     {
-        let upper = &micros[going.at as usize];
-        let number = upper.imm.wrapping_add(micros[going.at as usize + 1].imm);
+        let upper = &micros[going.at];
+        let number = upper.imm.wrapping_add(micros[going.at + 1].imm);
         self.lane.registers.set(upper.rd, number);
     }
 
@@ -137,13 +218,13 @@ impl<'a> ExecState<'a> {
         ensures counts { self.new.counts ≡ self.old.counts }
         ensures undoable { StaysUndoable self.old self.new }
     {
-        let first = going.at as usize + spilled;
+        let first = going.at + spilled;
         let look = &micros[first];
         match self.value_checked(kind, self.sum_by(look)) {
             Some(value) => {
                 self.leave(spilled, look.rd, micros[first + 1].rd);
                 self.lane.registers.set(micros[first + 8].rd, value);
-                going.on(8 + 2 * spilled as u64, 9 + 2 * spilled as u32);
+                going.on(8 + 2 * spilled as u32, 9 + 2 * spilled);
                 true
             }
             None => false,
@@ -167,7 +248,7 @@ impl<'a> ExecState<'a> {
         ensures counts { self.new.counts ≡ self.old.counts }
         ensures undoable { StaysUndoable self.old self.new }
     {
-        let first = going.at as usize + spilled;
+        let first = going.at + spilled;
         let look = &micros[first];
         let address = self.sum_by(look);
         if !self.log.admits(&self.lane, &self.local, width, address) {
@@ -176,7 +257,7 @@ impl<'a> ExecState<'a> {
         let value = self.lane.registers.get(micros[first + 7].rs2);
         if self.put_checked(width, address, value) {
             self.leave(spilled, look.rd, micros[first + 1].rd);
-            going.on(7 + 2 * spilled as u64, 8 + 2 * spilled as u32);
+            going.on(7 + 2 * spilled as u32, 8 + 2 * spilled);
             true
         } else {
             false
@@ -195,13 +276,13 @@ impl<'a> ExecState<'a> {
         ensures counts { self.new.counts ≡ self.old.counts }
         ensures undoable { StaysUndoable self.old self.new }
     {
-        let first = going.at as usize + spilled;
+        let first = going.at + spilled;
         let look = &micros[first];
         match self.value_unlike_flag(self.sum_by(look)) {
             Some(value) => {
                 self.leave_one(spilled == 1, 0, look.rd, FLAG_WORD);
                 self.lane.registers.set(micros[first + 2].rd, value);
-                going.on(5 + 2 * spilled as u64, 7 + 2 * spilled as u32);
+                going.on(5 + 2 * spilled as u32, 7 + 2 * spilled);
                 true
             }
             None => false,
@@ -225,7 +306,7 @@ impl<'a> ExecState<'a> {
         ensures undoable { StaysUndoable self.old self.new }
     {
         if self.head(2, spilled, micros, going) {
-            going.on(12 + 2 * spilled as u64, 16 + 2 * spilled as u32);
+            going.on(12 + 2 * spilled as u32, 16 + 2 * spilled);
             true
         } else {
             false
@@ -249,7 +330,7 @@ impl<'a> ExecState<'a> {
         ensures undoable { StaysUndoable self.old self.new }
     {
         if self.head(0xff, spilled, micros, going) {
-            going.on(11 + 2 * spilled as u64, 15 + 2 * spilled as u32);
+            going.on(11 + 2 * spilled as u32, 15 + 2 * spilled);
             true
         } else {
             false
@@ -277,7 +358,7 @@ impl<'a> ExecState<'a> {
         ensures counts { self.new.counts ≡ self.old.counts }
         ensures undoable { StaysUndoable self.old self.new }
     {
-        let first = going.at as usize + spilled;
+        let first = going.at + spilled;
         let low = &micros[first];
         let high = &micros[first + 5];
         match self

@@ -1,15 +1,15 @@
-//! Words in a row, by strides: one `match` for each, whether it is a word or a whole sequence.
+//! Words in a row, by strides: one `match` for each, be it a word, a whole sequence or a pair.
 
-ghost use Rattle.std.specs.Prelude.{◌≡◌, ◌+◌, ◌-◌, ◌^◌, ◌<◌, ◌≤◌, ℕ, true, false, None, length};
+ghost use Rattle.std.specs.Prelude.{◌≡◌, ◌+◌, ◌-◌, ◌^◌, ◌<◌, ◌≤◌, ℕ, false, None, length};
+ghost use Rattle.std.specs.Prelude.{IfSome, true};
 ghost use Rattle.node_memory.specs.rv32_step.Registers.{registers_of};
 ghost use Rattle.node_memory.specs.micro_op.Micro.{meaning_of};
 ghost use Rattle.node_memory.specs.jump_map.Image.{image_base, most_words};
-ghost use Rattle.node_memory.specs.jump_map.Micro.{AreMicrosOf};
-ghost use Rattle.node_memory.specs.jump_map.Strides.{IsPlain, IsStride};
+ghost use Rattle.node_memory.specs.jump_map.Strides.{HasStrides, IsPlain, IsStride, StandsAt};
 ghost use Rattle.node_words.specs.GoingOn.{BodyGoesOn, GoesFurther};
 ghost use Rattle.node_memory.specs.Shelf.{ground_of};
 ghost use Rattle.node_words.specs.Kept.{StepsTo};
-ghost use Rattle.node_words.specs.Strides.{IsTried, StepsBy, StridesBy};
+ghost use Rattle.node_words.specs.Strides.{IsTried, StepsBy};
 ghost use Rattle.node_words.specs.UndoLogs.{StaysUndoable};
 
 use crate::exec_state::ExecState;
@@ -19,19 +19,19 @@ use node_memory::micro_op::MicroOp;
 use rv32_decode::{Cond, LoadKind, Op, Width};
 
 /// No stride has more words.
-const MOST_AT_ONCE: u64 = 18;
+const MOST_AT_ONCE: u32 = 18;
 
 /// The number of the next word, and how many more words there may be.
 #[derive(Clone, Copy)]
 pub(crate) struct Going {
-    pub(crate) at: u32,
-    pub(crate) left: u64,
+    pub(crate) at: usize,
+    pub(crate) left: u32,
 }
 
 impl Going {
     /// So many words were executed, and the word so much further on follows.
     #[inline(always)]
-    pub(crate) fn on(&mut self, words: u64, further: u32)
+    pub(crate) fn on(&mut self, words: u32, further: usize)
         requires room { words ≤ self.old.left }
         requires low { self.old.at + further < 2 ^ 32 }
         ensures at { self.new.at ≡ self.old.at + further }
@@ -43,8 +43,9 @@ impl Going {
 
     /// So many words were executed, and the word of a number follows.
     #[inline(always)]
-    pub(crate) fn to(&mut self, words: u64, number: u32)
+    pub(crate) fn to(&mut self, words: u32, number: usize)
         requires room { words ≤ self.old.left }
+        requires low { number < 2 ^ 32 }
         ensures at { self.new.at ≡ number }
         ensures low { self.new.at < 2 ^ 32 }
         ensures left { self.new.left + words ≡ self.old.left }
@@ -67,34 +68,385 @@ impl<'a> ExecState<'a> {
         ensures undoable { StaysUndoable self.old self.new }
     {
         let (micros, strides) = image.tables();
+        let budget = most.min(u32::MAX as u64) as u32;
         let mut going = Going {
-            at: from,
-            left: most,
+            at: from as usize,
+            left: budget,
         };
         while going.left >= MOST_AT_ONCE {
-            let done = match strides.get(going.at as usize) {
+            let here = going;
+            let done = match stride_at(micros, strides, here.at) {
                 Some(kind) => {
-                    self.sequence(*kind, image, micros, &mut going)
-                        || self.one(*kind, image, &micros[going.at as usize], &mut going)
+                    let op = op_at(micros, here.at, kind);
+                    match kind {
+                        StrideKind::Slow => false,
+                        StrideKind::Nothing => self.nothing(op, &mut going),
+                        StrideKind::Constant => self.constant(op, &mut going),
+                        StrideKind::Jump => self.jump_by(op, &mut going),
+                        StrideKind::Link => self.link(op, &mut going),
+                        StrideKind::EnterBy => self.enter_by(op, image, &mut going),
+                        StrideKind::BranchEq => self.branch(Cond::Eq, op, &mut going),
+                        StrideKind::BranchNe => self.branch(Cond::Ne, op, &mut going),
+                        StrideKind::BranchLt => self.branch(Cond::Lt, op, &mut going),
+                        StrideKind::BranchGe => self.branch(Cond::Ge, op, &mut going),
+                        StrideKind::BranchLtu => self.branch(Cond::Ltu, op, &mut going),
+                        StrideKind::BranchGeu => self.branch(Cond::Geu, op, &mut going),
+                        StrideKind::LoadByte => self.load_by(LoadKind::Byte, op, &mut going),
+                        StrideKind::LoadHalf => self.load_by(LoadKind::Half, op, &mut going),
+                        StrideKind::LoadWord => self.load_by(LoadKind::Word, op, &mut going),
+                        StrideKind::LoadByteU => self.load_by(LoadKind::ByteU, op, &mut going),
+                        StrideKind::LoadHalfU => self.load_by(LoadKind::HalfU, op, &mut going),
+                        StrideKind::StoreByte => self.store_by(Width::Byte, op, &mut going),
+                        StrideKind::StoreHalf => self.store_by(Width::Half, op, &mut going),
+                        StrideKind::StoreWord => self.store_by(Width::Word, op, &mut going),
+                        StrideKind::AddImm => self.by_immediate(Op::Add, op, &mut going),
+                        StrideKind::SltImm => self.by_immediate(Op::Slt, op, &mut going),
+                        StrideKind::SltuImm => self.by_immediate(Op::Sltu, op, &mut going),
+                        StrideKind::XorImm => self.by_immediate(Op::Xor, op, &mut going),
+                        StrideKind::OrImm => self.by_immediate(Op::Or, op, &mut going),
+                        StrideKind::AndImm => self.by_immediate(Op::And, op, &mut going),
+                        StrideKind::SllImm => self.by_immediate(Op::Sll, op, &mut going),
+                        StrideKind::SrlImm => self.by_immediate(Op::Srl, op, &mut going),
+                        StrideKind::SraImm => self.by_immediate(Op::Sra, op, &mut going),
+                        StrideKind::Add => self.by_registers(Op::Add, op, &mut going),
+                        StrideKind::Sub => self.by_registers(Op::Sub, op, &mut going),
+                        StrideKind::Sll => self.by_registers(Op::Sll, op, &mut going),
+                        StrideKind::Slt => self.by_registers(Op::Slt, op, &mut going),
+                        StrideKind::Sltu => self.by_registers(Op::Sltu, op, &mut going),
+                        StrideKind::Xor => self.by_registers(Op::Xor, op, &mut going),
+                        StrideKind::Srl => self.by_registers(Op::Srl, op, &mut going),
+                        StrideKind::Sra => self.by_registers(Op::Sra, op, &mut going),
+                        StrideKind::Or => self.by_registers(Op::Or, op, &mut going),
+                        StrideKind::And => self.by_registers(Op::And, op, &mut going),
+                        StrideKind::Mul => self.by_registers(Op::Mul, op, &mut going),
+                        StrideKind::Mulh => self.by_slow(Op::Mulh, op, &mut going),
+                        StrideKind::Mulhsu => self.by_slow(Op::Mulhsu, op, &mut going),
+                        StrideKind::Mulhu => self.by_slow(Op::Mulhu, op, &mut going),
+                        StrideKind::Div => self.by_slow(Op::Div, op, &mut going),
+                        StrideKind::Divu => self.by_slow(Op::Divu, op, &mut going),
+                        StrideKind::Rem => self.by_slow(Op::Rem, op, &mut going),
+                        StrideKind::Remu => self.by_slow(Op::Remu, op, &mut going),
+                        StrideKind::OverEq => self.over(Cond::Eq, 0, micros, &mut going),
+                        StrideKind::OverNe => self.over(Cond::Ne, 0, micros, &mut going),
+                        StrideKind::OverLt => self.over(Cond::Lt, 0, micros, &mut going),
+                        StrideKind::OverGe => self.over(Cond::Ge, 0, micros, &mut going),
+                        StrideKind::OverLtu => self.over(Cond::Ltu, 0, micros, &mut going),
+                        StrideKind::OverGeu => self.over(Cond::Geu, 0, micros, &mut going),
+                        StrideKind::PollOverEq => self.over(Cond::Eq, 1, micros, &mut going),
+                        StrideKind::PollOverNe => self.over(Cond::Ne, 1, micros, &mut going),
+                        StrideKind::PollOverLt => self.over(Cond::Lt, 1, micros, &mut going),
+                        StrideKind::PollOverGe => self.over(Cond::Ge, 1, micros, &mut going),
+                        StrideKind::PollOverLtu => self.over(Cond::Ltu, 1, micros, &mut going),
+                        StrideKind::PollOverGeu => self.over(Cond::Geu, 1, micros, &mut going),
+                        StrideKind::PollJump => self.poll_jump(micros, &mut going),
+                        StrideKind::PollEnter => self.poll_enter(image, micros, &mut going),
+                        StrideKind::Number => self.number(micros, &mut going),
+                        StrideKind::Call => self.far_call(micros, &mut going),
+                        StrideKind::ReadByte0 => self.read(LoadKind::Byte, 0, micros, &mut going),
+                        StrideKind::ReadHalf0 => self.read(LoadKind::Half, 0, micros, &mut going),
+                        StrideKind::ReadWord0 => self.read(LoadKind::Word, 0, micros, &mut going),
+                        StrideKind::ReadByteU0 => self.read(LoadKind::ByteU, 0, micros, &mut going),
+                        StrideKind::ReadHalfU0 => self.read(LoadKind::HalfU, 0, micros, &mut going),
+                        StrideKind::ReadByte1 => self.read(LoadKind::Byte, 1, micros, &mut going),
+                        StrideKind::ReadHalf1 => self.read(LoadKind::Half, 1, micros, &mut going),
+                        StrideKind::ReadWord1 => self.read(LoadKind::Word, 1, micros, &mut going),
+                        StrideKind::ReadByteU1 => self.read(LoadKind::ByteU, 1, micros, &mut going),
+                        StrideKind::ReadHalfU1 => self.read(LoadKind::HalfU, 1, micros, &mut going),
+                        StrideKind::ReadByte2 => self.read(LoadKind::Byte, 2, micros, &mut going),
+                        StrideKind::ReadHalf2 => self.read(LoadKind::Half, 2, micros, &mut going),
+                        StrideKind::ReadWord2 => self.read(LoadKind::Word, 2, micros, &mut going),
+                        StrideKind::ReadByteU2 => self.read(LoadKind::ByteU, 2, micros, &mut going),
+                        StrideKind::ReadHalfU2 => self.read(LoadKind::HalfU, 2, micros, &mut going),
+                        StrideKind::WriteByte0 => self.write(Width::Byte, 0, micros, &mut going),
+                        StrideKind::WriteHalf0 => self.write(Width::Half, 0, micros, &mut going),
+                        StrideKind::WriteWord0 => self.write(Width::Word, 0, micros, &mut going),
+                        StrideKind::WriteByte1 => self.write(Width::Byte, 1, micros, &mut going),
+                        StrideKind::WriteHalf1 => self.write(Width::Half, 1, micros, &mut going),
+                        StrideKind::WriteWord1 => self.write(Width::Word, 1, micros, &mut going),
+                        StrideKind::WriteByte2 => self.write(Width::Byte, 2, micros, &mut going),
+                        StrideKind::WriteHalf2 => self.write(Width::Half, 2, micros, &mut going),
+                        StrideKind::WriteWord2 => self.write(Width::Word, 2, micros, &mut going),
+                        StrideKind::Flag0 => self.flag(0, micros, &mut going),
+                        StrideKind::Flag1 => self.flag(1, micros, &mut going),
+                        StrideKind::ReadHead0 => self.read_head(0, micros, &mut going),
+                        StrideKind::ReadHead1 => self.read_head(1, micros, &mut going),
+                        StrideKind::ReadHead2 => self.read_head(2, micros, &mut going),
+                        StrideKind::ReadHead3 => self.read_head(3, micros, &mut going),
+                        StrideKind::WriteHead0 => self.write_head(0, micros, &mut going),
+                        StrideKind::WriteHead1 => self.write_head(1, micros, &mut going),
+                        StrideKind::WriteHead2 => self.write_head(2, micros, &mut going),
+                        StrideKind::WriteHead3 => self.write_head(3, micros, &mut going),
+                        StrideKind::AddImmThenAddImm => self.by_immediate_then_add(
+                            Op::Add,
+                            false,
+                            op,
+                            micros,
+                            &mut going,
+                        ),
+                        StrideKind::AddImmThenAdd => self.by_immediate_then_add(
+                            Op::Add,
+                            true,
+                            op,
+                            micros,
+                            &mut going,
+                        ),
+                        StrideKind::AddThenAddImm => self.by_registers_then_add(
+                            Op::Add,
+                            false,
+                            op,
+                            micros,
+                            &mut going,
+                        ),
+                        StrideKind::AddThenAdd => self.by_registers_then_add(
+                            Op::Add,
+                            true,
+                            op,
+                            micros,
+                            &mut going,
+                        ),
+                        StrideKind::SllImmThenAddImm => self.by_immediate_then_add(
+                            Op::Sll,
+                            false,
+                            op,
+                            micros,
+                            &mut going,
+                        ),
+                        StrideKind::SllImmThenAdd => self.by_immediate_then_add(
+                            Op::Sll,
+                            true,
+                            op,
+                            micros,
+                            &mut going,
+                        ),
+                        StrideKind::MulThenAddImm => self.by_registers_then_add(
+                            Op::Mul,
+                            false,
+                            op,
+                            micros,
+                            &mut going,
+                        ),
+                        StrideKind::MulThenAdd => self.by_registers_then_add(
+                            Op::Mul,
+                            true,
+                            op,
+                            micros,
+                            &mut going,
+                        ),
+                        StrideKind::AddImmThenOverEq => self.add_then_over(
+                            false,
+                            Cond::Eq,
+                            0,
+                            op,
+                            micros,
+                            &mut going,
+                        ),
+                        StrideKind::AddImmThenOverNe => self.add_then_over(
+                            false,
+                            Cond::Ne,
+                            0,
+                            op,
+                            micros,
+                            &mut going,
+                        ),
+                        StrideKind::AddImmThenOverLt => self.add_then_over(
+                            false,
+                            Cond::Lt,
+                            0,
+                            op,
+                            micros,
+                            &mut going,
+                        ),
+                        StrideKind::AddImmThenOverGe => self.add_then_over(
+                            false,
+                            Cond::Ge,
+                            0,
+                            op,
+                            micros,
+                            &mut going,
+                        ),
+                        StrideKind::AddImmThenOverLtu => self.add_then_over(
+                            false,
+                            Cond::Ltu,
+                            0,
+                            op,
+                            micros,
+                            &mut going,
+                        ),
+                        StrideKind::AddImmThenOverGeu => self.add_then_over(
+                            false,
+                            Cond::Geu,
+                            0,
+                            op,
+                            micros,
+                            &mut going,
+                        ),
+                        StrideKind::AddImmThenPollOverEq => self.add_then_over(
+                            false,
+                            Cond::Eq,
+                            1,
+                            op,
+                            micros,
+                            &mut going,
+                        ),
+                        StrideKind::AddImmThenPollOverNe => self.add_then_over(
+                            false,
+                            Cond::Ne,
+                            1,
+                            op,
+                            micros,
+                            &mut going,
+                        ),
+                        StrideKind::AddImmThenPollOverLt => self.add_then_over(
+                            false,
+                            Cond::Lt,
+                            1,
+                            op,
+                            micros,
+                            &mut going,
+                        ),
+                        StrideKind::AddImmThenPollOverGe => self.add_then_over(
+                            false,
+                            Cond::Ge,
+                            1,
+                            op,
+                            micros,
+                            &mut going,
+                        ),
+                        StrideKind::AddImmThenPollOverLtu => self.add_then_over(
+                            false,
+                            Cond::Ltu,
+                            1,
+                            op,
+                            micros,
+                            &mut going,
+                        ),
+                        StrideKind::AddImmThenPollOverGeu => self.add_then_over(
+                            false,
+                            Cond::Geu,
+                            1,
+                            op,
+                            micros,
+                            &mut going,
+                        ),
+                        StrideKind::AddThenOverEq => self.add_then_over(
+                            true,
+                            Cond::Eq,
+                            0,
+                            op,
+                            micros,
+                            &mut going,
+                        ),
+                        StrideKind::AddThenOverNe => self.add_then_over(
+                            true,
+                            Cond::Ne,
+                            0,
+                            op,
+                            micros,
+                            &mut going,
+                        ),
+                        StrideKind::AddThenOverLt => self.add_then_over(
+                            true,
+                            Cond::Lt,
+                            0,
+                            op,
+                            micros,
+                            &mut going,
+                        ),
+                        StrideKind::AddThenOverGe => self.add_then_over(
+                            true,
+                            Cond::Ge,
+                            0,
+                            op,
+                            micros,
+                            &mut going,
+                        ),
+                        StrideKind::AddThenOverLtu => self.add_then_over(
+                            true,
+                            Cond::Ltu,
+                            0,
+                            op,
+                            micros,
+                            &mut going,
+                        ),
+                        StrideKind::AddThenOverGeu => self.add_then_over(
+                            true,
+                            Cond::Geu,
+                            0,
+                            op,
+                            micros,
+                            &mut going,
+                        ),
+                        StrideKind::AddThenPollOverEq => self.add_then_over(
+                            true,
+                            Cond::Eq,
+                            1,
+                            op,
+                            micros,
+                            &mut going,
+                        ),
+                        StrideKind::AddThenPollOverNe => self.add_then_over(
+                            true,
+                            Cond::Ne,
+                            1,
+                            op,
+                            micros,
+                            &mut going,
+                        ),
+                        StrideKind::AddThenPollOverLt => self.add_then_over(
+                            true,
+                            Cond::Lt,
+                            1,
+                            op,
+                            micros,
+                            &mut going,
+                        ),
+                        StrideKind::AddThenPollOverGe => self.add_then_over(
+                            true,
+                            Cond::Ge,
+                            1,
+                            op,
+                            micros,
+                            &mut going,
+                        ),
+                        StrideKind::AddThenPollOverLtu => self.add_then_over(
+                            true,
+                            Cond::Ltu,
+                            1,
+                            op,
+                            micros,
+                            &mut going,
+                        ),
+                        StrideKind::AddThenPollOverGeu => self.add_then_over(
+                            true,
+                            Cond::Geu,
+                            1,
+                            op,
+                            micros,
+                            &mut going,
+                        ),
+                    }
                 }
                 None => false,
             };
             if !done {
-                match self.step_apart(image, going.at) {
-                    Some(next) => going.to(1, next),
+                match self.step_apart(image, here.at as u32) {
+                    Some(next) => {
+                        going = here;
+                        going.to(1, next as usize);
+                    }
                     None => {
                         return Progress {
-                            at: going.at,
-                            words: most - going.left,
+                            at: here.at as u32,
+                            words: (budget - here.left) as u64,
                         };
                     }
                 }
             }
         }
-        let last = self.run_singly(image, going.at, going.left);
+        let last = self.run_singly(image, going.at as u32, going.left as u64);
         Progress {
             at: last.at,
-            words: most - going.left + last.words,
+            words: (budget - going.left) as u64 + last.words,
         }
     }
 
@@ -132,88 +484,14 @@ impl<'a> ExecState<'a> {
         ensures log { result ≡ None → self.new.log ≡ self.old.log }
         ensures undoable { StaysUndoable self.old self.new }
     {
-        let mut going = Going { at, left: 1 };
+        let mut going = Going {
+            at: at as usize,
+            left: 1,
+        };
         if self.one(StrideKind::plain(op), image, op, &mut going) {
-            Some(going.at)
+            Some(going.at as u32)
         } else {
             None
-        }
-    }
-
-    /// Executes the whole sequence that begins with the next word, if its kind is that of one. Says
-    /// whether it does; else nothing changes.
-    #[tactic(auto, using(crate::proofs::UndoLogLemmas::undoable_same))]
-    #[inline(always)]
-    fn sequence(
-        &mut self,
-        kind: StrideKind,
-        image: &Image,
-        micros: &[MicroOp],
-        going: &mut Going,
-    ) -> bool
-        requires few { length image.now ≤ most_words }
-        requires micros { AreMicrosOf image.now micros.now }
-        requires there { IsStride micros.now going.old.at kind }
-        requires room { 18 ≤ going.old.left }
-        ensures tried { IsTried result
-            (StridesBy image.now going.old self.old going.new self.new)
-            going.old self.old going.new self.new }
-        ensures counts { self.new.counts ≡ self.old.counts }
-        ensures undoable { StaysUndoable self.old self.new }
-    {
-        match kind {
-            StrideKind::OverEq => self.over(Cond::Eq, 0, micros, going),
-            StrideKind::OverNe => self.over(Cond::Ne, 0, micros, going),
-            StrideKind::OverLt => self.over(Cond::Lt, 0, micros, going),
-            StrideKind::OverGe => self.over(Cond::Ge, 0, micros, going),
-            StrideKind::OverLtu => self.over(Cond::Ltu, 0, micros, going),
-            StrideKind::OverGeu => self.over(Cond::Geu, 0, micros, going),
-            StrideKind::PollOverEq => self.over(Cond::Eq, 1, micros, going),
-            StrideKind::PollOverNe => self.over(Cond::Ne, 1, micros, going),
-            StrideKind::PollOverLt => self.over(Cond::Lt, 1, micros, going),
-            StrideKind::PollOverGe => self.over(Cond::Ge, 1, micros, going),
-            StrideKind::PollOverLtu => self.over(Cond::Ltu, 1, micros, going),
-            StrideKind::PollOverGeu => self.over(Cond::Geu, 1, micros, going),
-            StrideKind::PollJump => self.poll_jump(micros, going),
-            StrideKind::PollEnter => self.poll_enter(image, micros, going),
-            StrideKind::Number => self.number(micros, going),
-            StrideKind::Call => self.far_call(micros, going),
-            StrideKind::ReadByte0 => self.read(LoadKind::Byte, 0, micros, going),
-            StrideKind::ReadHalf0 => self.read(LoadKind::Half, 0, micros, going),
-            StrideKind::ReadWord0 => self.read(LoadKind::Word, 0, micros, going),
-            StrideKind::ReadByteU0 => self.read(LoadKind::ByteU, 0, micros, going),
-            StrideKind::ReadHalfU0 => self.read(LoadKind::HalfU, 0, micros, going),
-            StrideKind::ReadByte1 => self.read(LoadKind::Byte, 1, micros, going),
-            StrideKind::ReadHalf1 => self.read(LoadKind::Half, 1, micros, going),
-            StrideKind::ReadWord1 => self.read(LoadKind::Word, 1, micros, going),
-            StrideKind::ReadByteU1 => self.read(LoadKind::ByteU, 1, micros, going),
-            StrideKind::ReadHalfU1 => self.read(LoadKind::HalfU, 1, micros, going),
-            StrideKind::ReadByte2 => self.read(LoadKind::Byte, 2, micros, going),
-            StrideKind::ReadHalf2 => self.read(LoadKind::Half, 2, micros, going),
-            StrideKind::ReadWord2 => self.read(LoadKind::Word, 2, micros, going),
-            StrideKind::ReadByteU2 => self.read(LoadKind::ByteU, 2, micros, going),
-            StrideKind::ReadHalfU2 => self.read(LoadKind::HalfU, 2, micros, going),
-            StrideKind::WriteByte0 => self.write(Width::Byte, 0, micros, going),
-            StrideKind::WriteHalf0 => self.write(Width::Half, 0, micros, going),
-            StrideKind::WriteWord0 => self.write(Width::Word, 0, micros, going),
-            StrideKind::WriteByte1 => self.write(Width::Byte, 1, micros, going),
-            StrideKind::WriteHalf1 => self.write(Width::Half, 1, micros, going),
-            StrideKind::WriteWord1 => self.write(Width::Word, 1, micros, going),
-            StrideKind::WriteByte2 => self.write(Width::Byte, 2, micros, going),
-            StrideKind::WriteHalf2 => self.write(Width::Half, 2, micros, going),
-            StrideKind::WriteWord2 => self.write(Width::Word, 2, micros, going),
-            StrideKind::Flag0 => self.flag(0, micros, going),
-            StrideKind::Flag1 => self.flag(1, micros, going),
-            StrideKind::ReadHead0 => self.read_head(0, micros, going),
-            StrideKind::ReadHead1 => self.read_head(1, micros, going),
-            StrideKind::ReadHead2 => self.read_head(2, micros, going),
-            StrideKind::ReadHead3 => self.read_head(3, micros, going),
-            StrideKind::WriteHead0 => self.write_head(0, micros, going),
-            StrideKind::WriteHead1 => self.write_head(1, micros, going),
-            StrideKind::WriteHead2 => self.write_head(2, micros, going),
-            StrideKind::WriteHead3 => self.write_head(3, micros, going),
-            // Words by themselves
-            _ => false,
         }
     }
 
@@ -221,7 +499,13 @@ impl<'a> ExecState<'a> {
     /// nothing changes.
     #[tactic(auto, using(crate::proofs::UndoLogLemmas::undoable_same))]
     #[inline(always)]
-    fn one(&mut self, kind: StrideKind, image: &Image, op: &MicroOp, going: &mut Going) -> bool
+    pub(crate) fn one(
+        &mut self,
+        kind: StrideKind,
+        image: &Image,
+        op: &MicroOp,
+        going: &mut Going,
+    ) -> bool
         requires plain { IsPlain kind op.now }
         requires room { 0 < going.old.left }
         requires low { going.old.at < most_words }
@@ -233,11 +517,11 @@ impl<'a> ExecState<'a> {
         ensures undoable { StaysUndoable self.old self.new }
     {
         match kind {
-            StrideKind::Nothing => nothing(going),
+            StrideKind::Nothing => self.nothing(op, going),
             StrideKind::Constant => self.constant(op, going),
-            StrideKind::Jump => self.jump(1, op, going),
+            StrideKind::Jump => self.jump_by(op, going),
             StrideKind::Link => self.link(op, going),
-            StrideKind::EnterBy => self.enter(1, op, image, going),
+            StrideKind::EnterBy => self.enter_by(op, image, going),
             StrideKind::BranchEq => self.branch(Cond::Eq, op, going),
             StrideKind::BranchNe => self.branch(Cond::Ne, op, going),
             StrideKind::BranchLt => self.branch(Cond::Lt, op, going),
@@ -285,15 +569,26 @@ impl<'a> ExecState<'a> {
     }
 }
 
-/// A word that changes nothing.
+/// The kind of stride of the word of a number, where there is one.
 #[inline(always)]
-fn nothing(going: &mut Going) -> bool
-    requires room { 0 < going.old.left }
-    requires low { going.old.at < most_words }
-    ensures at { going.new.at ≡ going.old.at + 1 }
-    ensures left { going.new.left + 1 ≡ going.old.left }
-    ensures done { result ≡ true }
+fn stride_at(micros: &[MicroOp], strides: &[StrideKind], at: usize) -> Option<StrideKind>
+    requires { HasStrides micros.now strides.now }
+    ensures { IfSome result (IsStride micros.now at) }
 {
-    going.on(1, 1);
-    true
+    match strides.get(at) {
+        Some(kind) => Some(*kind),
+        None => None,
+    }
+}
+
+/// The micro-op of a word that has a stride of this kind.
+#[inline(always)]
+fn op_at<'m>(micros: &'m [MicroOp], at: usize, kind: StrideKind) -> &'m MicroOp
+    requires few { length micros.now ≤ most_words }
+    requires there { IsStride micros.now at kind }
+    ensures there { StandsAt micros.now at result.now }
+    ensures plain { IsPlain kind result.now }
+    ensures low { at < most_words }
+{
+    &micros[at]
 }

@@ -121,7 +121,7 @@ impl<'a> Memory<'a> {
     }
 
     /// The number that an aligned access reads in a read-only line; `None` in any other line.
-    #[inline(always)]
+    #[inline(never)]
     pub fn load_first(&self, width: Width, address: u32) -> Option<u32>
         requires { is_aligned width address ≡ true }
         ensures value { MatchOption result

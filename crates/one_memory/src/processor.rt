@@ -236,7 +236,7 @@ pub fn read(width: Width, address: u32, body: &OriginalState, memory: &Memory<'_
 }
 
 /// What is read where the line isn't shared.
-#[inline(never)]
+#[inline(always)]
 fn read_apart(width: Width, address: u32, body: &OriginalState, memory: &Memory<'_>) -> Option<u32>
     requires aligned { is_aligned width address ≡ true }
     requires apart { is_shared (class_at (program_of memory.now.program) address) ≡ false }
@@ -305,7 +305,7 @@ pub fn put_at(
 }
 
 /// Stores where the line isn't shared.
-#[inline(never)]
+#[inline(always)]
 fn put_apart(
     width: Width,
     address: u32,

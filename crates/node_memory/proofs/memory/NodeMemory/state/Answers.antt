@@ -1,8 +1,16 @@
 use Rattle.std.proofs.Common.{◌≡◌, ◌+◌, ◌*◌, ◌/◌, ◌%◌, ◌∙◌, ap, sym, subst, true, ℕ, Some, arith}
 use Rattle.block_layout.specs.Layout.{Shape, is_shared, shared_before, place_of}
 use Rattle.node_memory.specs.Shelf.{Shelf, IsPlace}
-use Rattle.node_memory.proofs.ShelfLemmas.{place_of_line}
+use Rattle.node_memory.proofs.MemoryLemmas.{private_line}
+use Rattle.node_memory.proofs.ShelfLemmas.{place_of_line, private_byte}
 use Rattle.node_memory.proofs.memory.NodeMemory.state.Goals as goal
+
+pub returns-then-is_private : goal.returns-then-is_private
+returns-then-is_private c =
+    let s = c.args.self.now in
+    let line = c.args.line in
+    private_byte s.program s.states s.copy line c.laws.ensures.lines
+    (private_line s.program line (sym c.is_private.ensures ∙ c.if-is_private.true))
 
 pub byte_at-requires : goal.byte_at-requires
 byte_at-requires c =

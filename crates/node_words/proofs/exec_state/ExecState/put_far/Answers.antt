@@ -1,7 +1,8 @@
 use Rattle.std.proofs.Common.{◌∙◌, ap, cond, sym, Bool}
 use Rattle.node_memory.specs.byte_range.Memory.{stored}
 use Rattle.node_memory.specs.byte_range.Window.{window_memory}
-use Rattle.node_words.proofs.AccessLemmas.{stored_or, window_stored}
+use Rattle.node_memory.specs.node_model.Node.{is_writable_state}
+use Rattle.node_words.proofs.AccessLemmas.{window_stored, window_state}
 use Rattle.node_words.proofs.exec_state.ExecState.put_far.Goals as goal
 
 pub returns-then-is_in_window-clause-stores : goal.returns-then-is_in_window-clause-stores
@@ -14,9 +15,7 @@ returns-then-is_in_window-clause-stores c =
     window_stored b c.args.width a c.args.value c.store.new.self
     (sym c.is_aligned.ensures.value ∙ c.if-not-is_aligned.false) inside bytes
 
-pub returns-clause-stores : goal.returns-clause-stores
-returns-clause-stores c =
-    let near = c.store-2.ensures in
-    stored_or c.store-2.result c.args.self.now c.args.width c.args.address c.args.value c.store-2.new.self
-    (sym c.is_aligned.ensures.value ∙ c.if-not-is_aligned.false) near.shared near.local near.ground
-    (λ none. (near.elsewhere none).0)
+pub returns-then-is_in_window-clause-writable : goal.returns-then-is_in_window-clause-writable
+returns-then-is_in_window-clause-writable c _ =
+    let inside = sym c.is_in_window.ensures ∙ c.if-is_in_window.true in
+    ap is_writable_state (window_state c.args.self.now.local c.args.address c.laws.ensures inside)

@@ -6,8 +6,8 @@ use Rattle.node_words.proofs.exec_state.ExecState.run.Given as goal
 
 abbrev pub invariant-loop-going : goal.invariant-loop-going
 invariant-loop-going l = record {
-  words : BodyGoesOn l.image l.most l.from l.initial.self (l.most - l.going.left) l.going.at l.self;
-  left : l.going.left ≤ l.most;
+  words : BodyGoesOn l.image l.most l.from l.initial.self (l.budget - l.going.left) l.going.at l.self;
+  left : l.going.left ≤ l.budget;
   low : l.going.at < 2 ^ 32;
   ground : ground_of l.self.local ≡ ground_of l.initial.self.local;
   counts : l.self.counts ≡ l.initial.self.counts;

@@ -1,13 +1,18 @@
-use Rattle.std.proofs.Common.{subst, refl}
-use Rattle.node_memory.specs.exec_map.Contents.{program_of}
-use Rattle.node_memory.specs.node_model.Node.{store, region_of}
-use Rattle.node_memory.specs.Shelf.{ground_of, Shelf, local_of}
-use Rattle.node_words.specs.Kept.{LeavesBehind, lane_of}
+use Rattle.std.proofs.Common.{Bool, cond, ap, sym, ◌∙◌}
+use Rattle.node_memory.specs.byte_range.Memory.{stored}
+use Rattle.node_memory.specs.byte_range.Window.{window_memory}
+use Rattle.node_words.specs.declared.exec_state.ExecState.{ExecState}
+use Rattle.node_words.proofs.AccessLemmas.{window_stored}
+use Rattle.node_words.proofs.StrideLemmas.{store_leaves}
 use Rattle.node_words.proofs.exec_state.ExecState.store.Goals as goal
 
-pub returns-then-not-store-clause-leaves : goal.returns-then-not-store-clause-leaves
-returns-then-not-store-clause-leaves c at =
-    subst
-    (λ (o : Shelf). LeavesBehind (store (program_of o.program) (lane_of c.args.self.now.lane at) (local_of o) c.args.width c.args.address c.args.value (region_of c.args.address)) (ground_of o) at c.store_elsewhere.new.self.lane c.store_elsewhere.new.self.local)
-    (c.if-not-store.ensures.elsewhere refl).0
-    (c.store_elsewhere.ensures.leaves at)
+pub returns-then-is_in_window-clause-leaves : goal.returns-then-is_in_window-clause-leaves
+returns-then-is_in_window-clause-leaves c at =
+    let b = c.args.self.now in
+    let b' : ExecState = record b { lane = record b.lane { private = c.store.new.self } } in
+    let a = c.args.address in
+    let m = window_memory b.lane.private in
+    let inside = sym c.is_in_window.ensures ∙ c.if-is_in_window.true in
+    let bytes = c.store.ensures.bytes ∙ ap (λ (t : Bool). cond t (stored c.args.width m a c.args.value) m) inside in
+    store_leaves b b' c.args.width a c.args.value
+    (window_stored b c.args.width a c.args.value c.store.new.self c.requires inside bytes) at
