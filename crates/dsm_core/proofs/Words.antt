@@ -14,10 +14,11 @@ use Rattle.run_order.specs.node_model.Core.{Core, Exec, May, may_execute, wires_
 use Rattle.node_machine.specs.declared.node_state.NodeState.{NodeState}
 use Rattle.node_machine.specs.NodeState.{node_of, work_of as work_at}
 use Rattle.node_machine.specs.Runs.{HasExecuted, GoesOnBy as HasGoneBy}
+use Rattle.node_machine.specs.node_words.Visits.{AreCounted, WordVisits}
 use Rattle.rewriting_law.specs.dsm_protocol.Queue.{Queue, SameWires, IsSent}
 use Rattle.dsm_core.specs.CoreParts.{core_with, GoesOnTo}
 use Rattle.dsm_core.specs.CoreWords.{GoesOnBy, HasExecutedOn, HasPassed, HasPassedWords}
-use Rattle.dsm_core.specs.CoreSteps.{node_or, SameNodes, HavePassed, HavePassedWords, HaveExecutedOn, GoesOnFor}
+use Rattle.dsm_core.specs.CoreSteps.{node_or, SameNodes, HaveCounted, HavePassed, HavePassedWords, HaveExecutedOn, GoesOnFor}
 use Rattle.dsm_core.proofs.CoreSteps.{same_node, same_work, set_node, turned}
 use Rattle.dsm_core.proofs.CoreRuns.{alike_also, alike_same, goes_nowhere, goes_once, goes_also, for_one, for_also}
 
@@ -268,6 +269,15 @@ passed_words n i words ns x y len bi is goes can work lists e have =
         | inr s ↦ absurd (s.1 refl)
       ])) can;
     }
+
+-- the words that count are those of the node as it was stored
+pub counted_words : (n i words : ℕ) (ns : List NodeState) (x : NodeState) (vs ws : List WordVisits) → length ns ≡ n → i < n
+    → x ≡ get_or ns i x → AreCounted (work_at x) words (node_of x) vs ws → HaveCounted n i words ns vs ws
+counted_words n i words ns x vs ws len bi is are work m e have =
+    let below : i < length ns = subst (λ z. i < z) (sym len) bi in
+    let same : SameNodes ns ns = record { nodes = refl; works = refl } in
+    subst (λ (z : Node). AreCounted work words z vs ws) (same_node ns ns i x m below same is)
+    (subst (λ (z : Work). AreCounted z words (node_of x) vs ws) (same_work work ns ns i x below same is have) are)
 
 -- 5. Where words lead
 

@@ -5,6 +5,9 @@ use Rattle.run_order.specs.node_model.Node.{Work, Node, opening_node, can_execut
 use Rattle.run_order.specs.node_model.Core.{Core, Event, Exec, Take, May, event_step, AreAlike}
 use Rattle.node_machine.specs.declared.node_state.NodeState.{NodeState}
 use Rattle.node_machine.specs.NodeState.{node_of, work_of as work_at, HasRoom}
+use Rattle.node_machine.specs.node_words.declared.visits.Visits.{Visits}
+use Rattle.node_machine.specs.node_words.Visits.{AreCounted, WordVisits}
+use Rattle.node_machine.specs.node_words.VisitTables.{AreVisitsIn}
 use Rattle.rewriting_law.specs.dsm_protocol.Queue.{Queue, wires_of}
 use Rattle.dsm_core.specs.CoreParts.{core_with, HaveWork, GoesOnTo}
 use Rattle.dsm_core.specs.CoreWords.{HasExecutedOn, HasPassed, HasPassedWords}
@@ -69,6 +72,17 @@ abbrev pub HavePassedWords : (n i words : ℕ) (old new : List NodeState) → Ty
 HavePassedWords n i words old new = (work : Work) (lists : List Queue) → work.layout.nodes ≡ n
     → HaveWork work old
     → HasPassedWords work i words (core_with work old lists) (core_with work new lists)
+
+-- the nodes run words of which these are visits
+pub record HaveVisits (nodes : List NodeState) (visits : Visits) : Type 0 where
+  pub work : Work
+  pub runs : HaveWork work nodes
+  pub table : AreVisitsIn work.image visits
+
+-- so many of node i's next words count, whatever they run
+abbrev pub HaveCounted : (n i words : ℕ) → List NodeState → (before after : List WordVisits) → Type 0
+HaveCounted n i words nodes vs ws = (work : Work) (m : Node) → work.layout.nodes ≡ n
+    → HaveWork work nodes → AreCounted work words (node_or nodes i m) vs ws
 
 -- node i has executed so many words, whatever they run
 abbrev pub HaveExecutedOn : (n i words : ℕ) (old_nodes new_nodes : List NodeState)

@@ -16,6 +16,8 @@ ghost use Rattle.dsm_core.specs.CoreParts.{HasStampsInRange};
 ghost use Rattle.dsm_core.specs.CoreWords.{HasPassed, HasPassedWords, HasExecutedOn};
 ghost use Rattle.dsm_core.specs.CoreWords.{HaveEachPassed};
 ghost use Rattle.dsm_core.specs.CoreSteps.{GoesOnFor};
+ghost use Rattle.node_machine.specs.node_words.Visits.{AreCounted};
+ghost use Rattle.node_machine.specs.node_words.VisitTables.{AreVisitsIn, StayVisits, visits_of};
 ghost use Rattle.dsm_core.specs.Seen.{IsFirstIn, IsSeen};
 ghost use Rattle.node_machine.specs.NodeState.{node_of, work_of as work_at};
 
@@ -25,7 +27,7 @@ use crate::steps::first_nodes;
 use crate::undo_logs::{StoppedEarly, UndoLogs};
 use crate::work::Work;
 use block_layout::{Layout, layout_law};
-use node_machine::Node;
+use node_machine::{Node, Visits};
 use rewriting_law::dsm_messages::Sends;
 use rewriting_law::dsm_protocol::buffer_law;
 use rewriting_law::dsm_protocol::lists::empty_lists;
@@ -234,6 +236,24 @@ impl<'a> Core<'a> {
     {
         self.bounds();
         self.parts.run_silent(node, most)
+    }
+
+    /// Executes words of a node one by one, as long as they print nothing and send nothing, count
+    /// among the visits, and the node may execute another behind them: at most so many. It gives
+    /// how many.
+    pub fn run_visiting(&mut self, node: u8, most: u64, visits: &mut Visits) -> u64
+        requires enabled { May (work_of self.old) (core_of self.old) (model.Exec node) }
+        requires table { AreVisitsIn (work_of self.old).image visits.old }
+        ensures passed { HasPassedWords (work_of self.old) node result
+            (core_of self.old) (core_of self.new) }
+        ensures visits { AreCounted (work_of self.old) result ((core_of self.old).nodes node)
+            (visits_of visits.old) (visits_of visits.new) }
+        ensures table { StayVisits visits.old visits.new }
+        ensures most { result ≤ most }
+        ensures work { work_of self.new ≡ work_of self.old }
+    {
+        self.bounds();
+        self.parts.run_visiting(node, most, visits)
     }
 
     /// Each node executes so many words, by its number, where their micro-ops serve all of them:

@@ -5,6 +5,8 @@ ghost use Rattle.std.specs.Prelude.{slice_index_or, MatchOption};
 ghost use Rattle.run_order.specs.node_model.Core as model;
 ghost use Rattle.run_order.specs.node_model.Core.{May, IsOver, AreAlike, event_step};
 ghost use Rattle.node_machine.specs.NodeState.{node_of, work_of as work_at};
+ghost use Rattle.node_machine.specs.node_words.Visits.{AreCounted};
+ghost use Rattle.node_machine.specs.node_words.VisitTables.{AreVisitsIn, StayVisits, visits_of};
 ghost use Rattle.dsm_core.specs.CoreParts.{work_of, core_of, event_of, AreParts, HasStampsInRange};
 ghost use Rattle.dsm_core.specs.CoreWords.{HasPassed, HasPassedWords, HasExecutedOn};
 ghost use Rattle.dsm_core.specs.CoreWords.{HaveEachPassed};
@@ -14,12 +16,13 @@ use crate::cores::Event;
 use crate::seen::{Incoming, Seen, first, make_seen};
 use crate::steps::{
     are_over, exec_silent, has_mail, has_wire, is_enabled, make, run_silent, run_until_send,
+    run_visiting,
 };
 use crate::undo_logs::{StoppedEarly, UndoLogs, run_each_undoable};
 use block_layout::Layout;
-use node_machine::Node;
 use node_machine::exec_map::Program;
 use node_machine::jump_map::Image;
+use node_machine::{Node, Visits};
 use rewriting_law::dsm_messages::Sends;
 use rewriting_law::dsm_protocol::Queue;
 use run_limits::Budget;
@@ -171,6 +174,26 @@ impl<'a> Parts<'a> {
     {
         let count = self.layout.nodes();
         run_silent(&mut self.nodes, count, node, most)
+    }
+
+    /// A node executes words that print nothing and send nothing and count among the visits, at
+    /// most so many.
+    pub(crate) fn run_visiting(&mut self, node: u8, most: u64, visits: &mut Visits) -> u64
+        requires parts { AreParts self.old }
+        requires range { HasStampsInRange self.old.layout.nodes (core_of self.old) }
+        requires enabled { May (work_of self.old) (core_of self.old) (model.Exec node) }
+        requires table { AreVisitsIn (work_of self.old).image visits.old }
+        ensures parts { AreParts self.new }
+        ensures work { work_of self.new ≡ work_of self.old }
+        ensures passed { HasPassedWords (work_of self.old) node result
+            (core_of self.old) (core_of self.new) }
+        ensures visits { AreCounted (work_of self.old) result ((core_of self.old).nodes node)
+            (visits_of visits.old) (visits_of visits.new) }
+        ensures table { StayVisits visits.old visits.new }
+        ensures most { result ≤ most }
+    {
+        let count = self.layout.nodes();
+        run_visiting(&mut self.nodes, count, node, most, visits)
     }
 
     /// Each node executes so many words, by its number, where their micro-ops serve all of them;

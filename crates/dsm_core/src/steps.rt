@@ -11,11 +11,12 @@ ghost use Rattle.dsm_core.specs.CoreParts.{work_in, core_with, event_of, HaveWor
 ghost use Rattle.run_order.specs.node_model.Core.{IsOver};
 ghost use Rattle.dsm_core.specs.CoreSteps.{SameNodes, SameWorks, HasNodeRoom, CanExecute, HaveMade};
 ghost use Rattle.dsm_core.specs.CoreSteps.{HaveKept, HavePassed, HaveExecutedOn, AreFirst, CanMake};
-ghost use Rattle.dsm_core.specs.CoreSteps.{HavePassedWords};
+ghost use Rattle.dsm_core.specs.CoreSteps.{HaveCounted, HavePassedWords, HaveVisits};
+ghost use Rattle.node_machine.specs.node_words.VisitTables.{StayVisits, visits_of};
 
 use crate::cores::Event;
 use crate::work;
-use node_machine::{Node, Standing};
+use node_machine::{Node, Standing, Visits};
 use rewriting_law::dsm_messages::Sends;
 use rewriting_law::dsm_protocol::Queue;
 use rewriting_law::dsm_protocol::lists::{first_wire, reserve_from, send, take_first};
@@ -211,6 +212,29 @@ pub(crate) fn run_silent(nodes: &mut Vec<Node<'_>>, count: u8, node: u8, most: u
     ensures most { result ≤ most }
 {
     nodes[node as usize].run_silent(most)
+}
+
+/// A node executes words that print nothing and send nothing and count among the visits, at most so
+/// many, and it is given how many.
+pub(crate) fn run_visiting(
+    nodes: &mut Vec<Node<'_>>,
+    count: u8,
+    node: u8,
+    most: u64,
+    visits: &mut Visits,
+) -> u64
+    requires count { length nodes.old.items ≡ count }
+    requires allowed { CanExecute count nodes.old.items node }
+    requires table { HaveVisits nodes.old.items visits.old }
+    ensures count { length nodes.new.items ≡ count }
+    ensures works { SameWorks nodes.old.items nodes.new.items }
+    ensures passed { HavePassedWords count node result nodes.old.items nodes.new.items }
+    ensures visits { HaveCounted count node result nodes.old.items
+        (visits_of visits.old) (visits_of visits.new) }
+    ensures table { StayVisits visits.old visits.new }
+    ensures most { result ≤ most }
+{
+    nodes[node as usize].run_visiting(most, visits)
 }
 
 /// A node executes a word. Where its micro-op serves it no room is needed.

@@ -17,7 +17,7 @@ pub use node_state::{Turn, WordTurn, add_byes, handle};
 pub use node_words;
 pub use node_words::miss_handlers::{BUFFER_BYTES, WAITS};
 pub use node_words::node_model::{Entry, NodeCounts, OutByte, Standing};
-pub use node_words::{exec_map, jump_map, miss_handlers};
+pub use node_words::{Visits, exec_map, jump_map, miss_handlers};
 pub use opening::first_local;
 pub use phase::{Phase, is_ended};
 pub use protocol_state::{ProtocolState, put, want_of_other_block};

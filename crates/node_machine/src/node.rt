@@ -19,6 +19,8 @@ ghost use Rattle.node_machine.specs.NodeState.{node_of, work_of, HasRoom};
 ghost use Rattle.node_machine.specs.Runs.{HasExecuted, GoesOnBy};
 ghost use Rattle.node_machine.specs.Touch.{IsTouch};
 ghost use Rattle.node_machine.specs.UndoLogs.{TakesNodeBack};
+ghost use Rattle.node_words.specs.Visits.{AreCounted};
+ghost use Rattle.node_words.specs.VisitTables.{AreVisitsIn, StayVisits, visits_of};
 ghost use Rattle.node_machine.specs.declared.node_state.NodeState.{NodeState as Stored};
 
 use crate::node_state::{NodeState, Turn, WordTurn};
@@ -40,7 +42,7 @@ use node_words::miss_handlers::{BUFFER_BYTES, WAITS, Waits};
 use node_words::node_model::{Entry, NodeCounts, OutByte, Standing};
 use node_words::runtime_words::RtWord;
 use node_words::rv32_step::Registers;
-use node_words::{ExecState, ProcessorState, StoreLog, address_of, index_of};
+use node_words::{ExecState, ProcessorState, StoreLog, Visits, address_of, index_of};
 use run_limits::Budget;
 use rv32_decode::LoadKind;
 use state_table::State;
@@ -396,6 +398,25 @@ impl<'a> Node<'a> {
         ensures work { work_of self.new ≡ work_of self.old }
     {
         self.inner.run_silent(most)
+    }
+
+    /// Executes words one by one, as long as they print nothing, send nothing and count among the
+    /// visits: at most so many, fewer than the budget has left, and fewer than there are stamps
+    /// left. It gives how many.
+    pub fn run_visiting(&mut self, most: u64, visits: &mut Visits) -> u64
+        requires may { model.can_execute (node_of self.old).phase ≡ true }
+        requires stamp { (node_of self.old).stamp < 2 ^ 56 }
+        requires table { AreVisitsIn (work_of self.old).image visits.old }
+        ensures goes_on { GoesOnBy (work_of self.old) result (node_of self.old) (node_of self.new) }
+        ensures visits { AreCounted (work_of self.old) result (node_of self.old)
+            (visits_of visits.old) (visits_of visits.new) }
+        ensures table { StayVisits visits.old visits.new }
+        ensures may { model.can_execute (node_of self.new).phase ≡ true }
+        ensures most { result ≤ most }
+        ensures stamp { (node_of self.new).stamp < 2 ^ 56 }
+        ensures work { work_of self.new ≡ work_of self.old }
+    {
+        self.inner.run_visiting(most, visits)
     }
 
     /// Executes words, of which those before the last print nothing and send nothing: as many as

@@ -7,6 +7,8 @@ ghost use Rattle.node_words.specs.node_model.Node as model;
 ghost use Rattle.node_words.specs.node_model.Turns as turns;
 ghost use Rattle.node_words.specs.node_memory.Shelf.{ground_of, local_of};
 ghost use Rattle.node_words.specs.Kept.{wants_by};
+ghost use Rattle.node_words.specs.Visits.{AreCounted};
+ghost use Rattle.node_words.specs.VisitTables.{AreVisitsIn, StayVisits, visits_of};
 ghost use Rattle.node_machine.specs.Wanted.{wants_along, wanted_in, wants_of_word};
 ghost use Rattle.node_machine.specs.NodeState.{work_of, node_of, layout_of, with_parts, phase_of};
 ghost use Rattle.node_machine.specs.NodeState.{HasRoom, IsNode, IsProtocolState, AreCountsBelow};
@@ -19,7 +21,7 @@ use crate::protocol_state::ProtocolState;
 use crate::states::{LaneState, SharedState};
 use crate::wanted::WantedBlocks;
 use node_words::dsm_messages::{Message, Post, Sends, Wire};
-use node_words::{ExecState, Following};
+use node_words::{ExecState, Following, Visits};
 use run_limits::STAMPS;
 
 /// What a node did in one event, but for what it sent.
@@ -140,6 +142,41 @@ impl<'a> NodeState<'a> {
             .shared
             .body
             .run(self.lane.image, self.lane.at, most_words(most, left));
+        self.lane.at = stretch.at;
+        self.lane.executed += stretch.words;
+        self.shared.stamp += stretch.words;
+        self.lane.phase = phase_on(self.lane.phase, stretch.words);
+        stretch.words
+    }
+
+    /// Executes words one by one, as long as they print nothing, send nothing and count among the
+    /// visits: at most so many, fewer than the budget has left, and fewer than there are stamps
+    /// left. It gives how many.
+    pub fn run_visiting(&mut self, most: u64, visits: &mut Visits) -> u64
+        requires node { IsNode self.old }
+        requires may { model.can_execute (node_of self.old).phase ≡ true }
+        requires stamp { self.old.shared.stamp < 2 ^ 56 }
+        requires table { AreVisitsIn (work_of self.old).image visits.old }
+        ensures goes_on { GoesOnBy (work_of self.old) result (node_of self.old) (node_of self.new) }
+        ensures visits { AreCounted (work_of self.old) result (node_of self.old)
+            (visits_of visits.old) (visits_of visits.new) }
+        ensures table { StayVisits visits.old visits.new }
+        ensures may { model.can_execute (node_of self.new).phase ≡ true }
+        ensures most { result ≤ most }
+        ensures stamp { self.new.shared.stamp < 2 ^ 56 }
+        ensures work { work_of self.new ≡ work_of self.old }
+        ensures node { IsNode self.new }
+    {
+        let left = most_words(
+            self.lane.budget.number() - self.lane.executed - 1,
+            STAMPS - self.shared.stamp - 1,
+        );
+        let stretch = self.shared.body.run_visiting(
+            self.lane.image,
+            self.lane.at,
+            most_words(most, left),
+            visits,
+        );
         self.lane.at = stretch.at;
         self.lane.executed += stretch.words;
         self.shared.stamp += stretch.words;

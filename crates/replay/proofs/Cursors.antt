@@ -335,6 +335,40 @@ words_less w v i more e f bi is le some = let c = cursor_at w i in
     (words_fewer i (c.takes + 1) c.last (c.last + more) c.words more (drop c.takes (entries_at w i))
     e (drop (c.takes + 1) (entries_at w i)) is le some))
 
+pub words_none : (w : Cursors) (i : ℕ) → HasFollowed w i (words_after w i 0) w
+words_none w i =
+    let c = cursor_at w i in
+    let a : c.words ≡ c.words + 0 = omega arith in
+    let b : c.last ≡ c.last + 0 = omega arith in
+    record {
+      rec_is = refl;
+      own = ap₂ (λ x y. record { takes = c.takes; words = x; last = y }) a b;
+      others = λ k other. refl;
+    }
+
+count_kept : (w v : Cursors) (m : ℕ) → ((k : ℕ) → left_at v k ≡ left_at w k) → count_left v m ≡ count_left w m
+count_kept w v zero same = refl
+count_kept w v (suc m) same = ap₂ (λ x y. x + y) (count_kept w v m same) (ap length (same m))
+
+all_kept : (w v : Cursors) → v.rec.now ≡ w.rec.now → ((k : ℕ) → cursor_at v k ≡ cursor_at w k)
+    → all_left v ≡ all_left w
+all_kept w v rec same =
+    ap (λ (r : Record). count_left v r.nodes) rec
+    ∙ count_kept w v w.rec.now.nodes (λ k. left_same w v k rec (same k))
+
+-- no more is left where any number of words were executed
+pub words_no_more : (w v : Cursors) (i more : ℕ) (e : JournalEntry)
+    → HasFollowed w i (words_after w i more) v → i < w.rec.now.nodes → IsEntryOf w i e
+    → (cursor_at w i).words + more ≤ e.words → all_left v ≤ all_left w
+words_no_more w v i zero e f bi is le =
+    let none = words_none w i in
+    let same = all_kept w v f.rec_is (λ k. ⊎_elim
+    (λ (s : k ≡ i). subst (λ z. cursor_at v z ≡ cursor_at w z) (sym s) (f.own ∙ sym none.own))
+    (λ (o : k ≢ i). f.others k o) (cases_eq k i)) in
+    omega (arith, same)
+words_no_more w v i (suc k) e f bi is le =
+    let less = words_less w v i (suc k) e f bi is le (omega arith) in omega (arith, less)
+
 pub take_less : (w v : Cursors) (i : ℕ) (e : JournalEntry)
     → HasFollowed w i (after_take w i e) v → i < w.rec.now.nodes → IsEntryOf w i e
     → e.words ≤ (cursor_at w i).words → all_left v < all_left w
@@ -347,17 +381,6 @@ take_less w v i e f bi is le =
     ap (λ l. length l) old in omega arith)
 
 -- 6. Words one after another
-
-pub words_none : (w : Cursors) (i : ℕ) → HasFollowed w i (words_after w i 0) w
-words_none w i =
-    let c = cursor_at w i in
-    let a : c.words ≡ c.words + 0 = omega arith in
-    let b : c.last ≡ c.last + 0 = omega arith in
-    record {
-      rec_is = refl;
-      own = ap₂ (λ x y. record { takes = c.takes; words = x; last = y }) a b;
-      others = λ k other. refl;
-    }
 
 pub words_also : (w v u : Cursors) (i j k : ℕ) → HasFollowed w i (words_after w i j) v
     → HasFollowed v i (words_after v i k) u → HasFollowed w i (words_after w i (j + k)) u

@@ -12,7 +12,7 @@ use Rattle.replay.specs.declared.events.Replayer.{Replayer}
 use Rattle.replay.specs.declared.events.WordsAhead.{WordsAhead}
 use Rattle.replay.specs.Told.{Told}
 use Rattle.replay.specs.Way.{cursor_at, last_at, IsEntryOf, ComesFirst, HasFollowed, HasMade, HasMadeWord, IsSilent, IsStretch}
-use Rattle.replay.proofs.Cursors.{word_next, after_word, entry_kept, first_kept, mid_node}
+use Rattle.replay.proofs.Cursors.{word_next, after_word, words_after, entry_kept, first_kept, mid_node}
 use Rattle.replay.proofs.Runs.{made_word, stamp_now}
 
 word_node : (work : Work) (c : Core) (i : ℕ)
@@ -46,23 +46,23 @@ passed_word a d before i e h bi entry lt first may p work f =
       silent = silent_word (work_of a.core) (core_of a.core) (core_of d.core) i may.0 p;
     }
 
--- the words of a stretch behind one more are a stretch
-pub stretch_on : (a d : Replayer) (s : WordsAhead) (k : ℕ) → s.words ≡ k + 1 → IsStretch a s
-    → HasFollowed a.cursors s.node (after_word a.cursors s.node) d.cursors
+-- the words of a stretch behind so many are a stretch
+pub stretch_on : (a d : Replayer) (s : WordsAhead) (j k : ℕ) → s.words ≡ k + j → IsStretch a s
+    → HasFollowed a.cursors s.node (words_after a.cursors s.node j) d.cursors
     → May (work_of d.core) (core_of d.core) (Exec s.node) → IsStretch d (record s { words = k })
-stretch_on a d s k count is f may =
+stretch_on a d s j k count is f may =
     let w = a.cursors in let v = d.cursors in let i = s.node in
-    let words : (cursor_at v i).words ≡ (cursor_at w i).words + 1 = ap (λ (c : Cursor). c.words) f.own in
-    let last : last_at v i ≡ last_at w i + 1 = ap (λ (c : Cursor). c.last) f.own in
+    let words : (cursor_at v i).words ≡ (cursor_at w i).words + j = ap (λ (c : Cursor). c.words) f.own in
+    let last : last_at v i ≡ last_at w i + j = ap (λ (c : Cursor). c.last) f.own in
     let same : last_at w i + s.words ≡ last_at v i + k = omega (arith, last, count) in
     let within = is.words in
     record {
-      node = mid_node w v i i (after_word w i) f is.node;
+      node = mid_node w v i i (words_after w i j) f is.node;
       may = may;
-      is_entry = entry_kept w v i 1 s.entry f is.is_entry;
+      is_entry = entry_kept w v i j s.entry f is.is_entry;
       words = omega (arith, words, within, count);
       first = λ some. subst (λ (r : Record). ComesFirst v r.nodes (last_at v i + k) i) (sym f.rec_is)
           (subst (λ x. ComesFirst v w.rec.now.nodes x i) same
-          (first_kept w v i w.rec.now.nodes (last_at w i + s.words) (after_word w i) f
-          (is.first (omega (arith, count)))));
+          (first_kept w v i w.rec.now.nodes (last_at w i + s.words) (words_after w i j) f
+          (is.first (omega (arith, count, some)))));
     }

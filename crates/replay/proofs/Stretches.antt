@@ -1,5 +1,6 @@
 -- Words of one node, one after another, between two places of its journal.
-use Rattle.std.proofs.Common.{◌≡◌, ◌≢◌, ℕ, zero, suc, ◌+◌, ◌<◌, ◌≤◌, List, [], ◌∷◌, ◌++◌, get_or, refl, sym, ap, ap₂, ◌∙◌, subst, arith, ⊎_elim}
+use Rattle.std.proofs.Common.{◌≡◌, ◌≢◌, ℕ, zero, suc, ◌+◌, ◌<◌, ◌≤◌, List, [], ◌∷◌, ◌++◌, append-nil, append_assoc, get_or, refl, sym, ap, ap₂, ◌∙◌, subst, arith, ⊎_elim}
+use Rattle.std.specs.Prelude.{replicate}
 use Rattle.std.proofs.lemmas.Bool.{cases_eq}
 use Rattle.run_order.specs.node_model.declared.Entry.{Entry as JournalEntry}
 use Rattle.run_order.specs.node_model.Node.{Work, Node}
@@ -12,10 +13,11 @@ use Rattle.dsm_core.proofs.CoreRuns.{alike_also, alike_same}
 use Rattle.replay.specs.declared.cursor.Cursor.{Cursor}
 use Rattle.replay.specs.declared.cursor.Cursors.{Cursors}
 use Rattle.replay.specs.declared.events.Replayer.{Replayer}
-use Rattle.replay.specs.Told.{entries_of}
-use Rattle.replay.specs.Way.{left_of, start_of, cursor_at, entries_at, left_at, last_at, IsEntryOf, AreLawful, ComesFirst, HasFollowed, IsBehind, IsOnWay, IsRunning}
+use Rattle.replay.specs.Told.{Told, entries_of, events_told}
+use Rattle.replay.specs.Way.{left_of, start_of, cursor_at, entries_at, left_at, last_at, IsEntryOf, AreLawful, ComesFirst, HasFollowed, HasMade, HasMadeWords, IsBehind, IsRunning}
 use Rattle.replay.proofs.Made.{word_at}
 use Rattle.replay.proofs.Way.{IsAhead, step_on}
+use Rattle.replay.proofs.Runs.{made_of, running_of}
 use Rattle.replay.proofs.Cursors.{behind_word, word_next, after_word, words_after, words_none, word_ahead, word_now, word_lawful, left_same, first_kept, first_sooner, entry_kept}
 
 -- 1. The place of one node, by a list of places
@@ -55,18 +57,19 @@ has_followed w i c = record {
 
 -- 2. A core at these places
 
-pub record IsAt (work : Work) (w : Cursors) (c : Core) : Type 0 where
+pub record IsAt (work : Work) (w : Cursors) (c : Core) (before : List Told) : Type 0 where
   pub lawful : AreLawful w
   pub nodes : work.layout.nodes ≡ w.rec.now.nodes
-  pub way : IsOnWay work w.rec.now (left_at w) (last_at w) c
+  pub way : IsBehind work w.rec.now (left_at w) (last_at w) c before
 
-at_of : (r : Replayer) → IsRunning r → IsAt (work_of r.core) r.cursors (core_of r.core)
-at_of r is = record { lawful = is.lawful; nodes = is.nodes; way = is.way }
+at_of : (r : Replayer) (before : List Told) → HasMade r before
+    → IsAt (work_of r.core) r.cursors (core_of r.core) before
+at_of r before is = record { lawful = is.lawful; nodes = is.nodes; way = is.way }
 
 -- where the places are the same, it is at them
-at_same : (work : Work) (w v : Cursors) (c : Core) → v.rec.now ≡ w.rec.now
-    → ((k : ℕ) → cursor_at v k ≡ cursor_at w k) → IsAt work w c → IsAt work v c
-at_same work w v c rec same is = record {
+at_same : (work : Work) (w v : Cursors) (c : Core) (before : List Told) → v.rec.now ≡ w.rec.now
+    → ((k : ℕ) → cursor_at v k ≡ cursor_at w k) → IsAt work w c before → IsAt work v c before
+at_same work w v c before rec same is = record {
   lawful = record {
     is_record = subst (λ (r : Record). IsRecord r) (sym rec) is.lawful.is_record;
     left = λ i bi.
@@ -77,70 +80,61 @@ at_same work w v c rec same is = record {
   };
   nodes = is.nodes ∙ ap (λ (r : Record). r.nodes) (sym rec);
   way =
-      let b = is.way.1 in (
-        is.way.0,
-        subst (λ (r : Record). IsBehind work r (left_at v) (last_at v) c is.way.0) (sym rec)
-            (record {
-              rest = b.rest;
-              are_told = b.are_told;
-              made = b.made;
-              alike = b.alike;
-              each = λ i bi. b.each i bi ∙ sym (left_same w v i rec (same i));
-              stamps = λ i bi. b.stamps i bi ∙ ap (λ (x : Cursor). x.last) (sym (same i));
-            }),
-      );
+      let b = is.way in
+      subst (λ (r : Record). IsBehind work r (left_at v) (last_at v) c before) (sym rec) (record {
+        rest = b.rest;
+        are_told = b.are_told;
+        made = b.made;
+        alike = b.alike;
+        each = λ i bi. b.each i bi ∙ sym (left_same w v i rec (same i));
+        stamps = λ i bi. b.stamps i bi ∙ ap (λ (x : Cursor). x.last) (sym (same i));
+      });
 }
 
 -- a core that is alike is there too
-at_alike : (work : Work) (w : Cursors) (c d : Core) → AreAlike work.layout.nodes d c
-    → IsAt work w c → IsAt work w d
-at_alike work w c d a is = record {
+at_alike : (work : Work) (w : Cursors) (c d : Core) (before : List Told) → AreAlike work.layout.nodes d c
+    → IsAt work w c before → IsAt work w d before
+at_alike work w c d before a is = record {
   lawful = is.lawful;
   nodes = is.nodes;
   way =
-      let b = is.way.1 in (
-        is.way.0,
-        record {
-          rest = b.rest;
-          are_told = b.are_told;
-          made = b.made;
-          alike = alike_also work.layout.nodes d c _ a b.alike;
-          each = b.each;
-          stamps = λ i bi. ap (λ (n : Node). n.stamp) (a.nodes i bi) ∙ b.stamps i bi;
-        },
-      );
+      let b = is.way in record {
+        rest = b.rest;
+        are_told = b.are_told;
+        made = b.made;
+        alike = alike_also work.layout.nodes d c _ a b.alike;
+        each = b.each;
+        stamps = λ i bi. ap (λ (n : Node). n.stamp) (a.nodes i bi) ∙ b.stamps i bi;
+      };
 }
 
 -- 3. One word, and words one after another
 
-one_word : (work : Work) (w v : Cursors) (c : Core) (i : ℕ) (e : JournalEntry) → IsAt work w c
-    → i < w.rec.now.nodes → IsEntryOf w i e → (cursor_at w i).words < e.words
+one_word : (work : Work) (w v : Cursors) (c : Core) (before : List Told) (i : ℕ) (e : JournalEntry)
+    → IsAt work w c before → i < w.rec.now.nodes → IsEntryOf w i e → (cursor_at w i).words < e.words
     → ComesFirst w w.rec.now.nodes (last_at w i + 1) i → May work c (Exec i)
-    → HasFollowed w i (after_word w i) v → IsAt work v (event_step work c (Exec i))
-one_word work w v c i e is bi entry lt first may f =
+    → HasFollowed w i (after_word w i) v
+    → IsAt work v (event_step work c (Exec i)) (before ++ word_next w i ∷ [])
+one_word work w v c before i e is bi entry lt first may f =
     let d = event_step work c (Exec i) in
     let x = word_next w i in
-    let before = is.way.0 ++ x ∷ [] in
     record {
       lawful = word_lawful w v i e bi is.lawful entry lt f;
       nodes = is.nodes ∙ ap (λ (r : Record). r.nodes) (sym f.rec_is);
-      way = (
-        before,
-        subst (λ (r : Record). IsBehind work r (left_at v) (last_at v) d before) (sym f.rec_is)
-            (step_on work w.rec.now (left_at w) (left_at v) (last_at w) (last_at v) c d i x
-            (behind_word w i) (sym is.nodes) is.way
-            (subst (λ k. IsAhead k (left_at w) i x (behind_word w i)) (sym is.nodes)
-            (word_ahead w is.lawful i bi e entry lt first))
-            (record {
-              made = record {
-                may = may;
-                stamp = word_at work c i
-                    ∙ ap (λ k. k + 1) (is.way.1.stamps i (subst (λ k. i < k) (sym is.nodes) bi));
-              };
-              leads = alike_same work.layout.nodes d;
-            })
-            (word_now w v i f)),
-      );
+      way = subst (λ (r : Record). IsBehind work r (left_at v) (last_at v) d (before ++ x ∷ [])) (sym f.rec_is)
+          (step_on work w.rec.now (left_at w) (left_at v) (last_at w) (last_at v) c d i x
+          (behind_word w i) (sym is.nodes) (before, is.way)
+          (subst (λ k. IsAhead k (left_at w) i x (behind_word w i)) (sym is.nodes)
+          (word_ahead w is.lawful i bi e entry lt first))
+          (record {
+            made = record {
+              may = may;
+              stamp = word_at work c i
+                  ∙ ap (λ k. k + 1) (is.way.stamps i (subst (λ k. i < k) (sym is.nodes) bi));
+            };
+            leads = alike_same work.layout.nodes d;
+          })
+          (word_now w v i f));
     }
 
 -- a word, and so many behind it
@@ -161,36 +155,73 @@ words_behind w u v i k f g =
       others = λ j other. g.others j other ∙ sym (f.others j other);
     }
 
-pub words_run : (work : Work) (k : ℕ) (w v : Cursors) (c d : Core) (i : ℕ) (e : JournalEntry)
-    → IsAt work w c → i < w.rec.now.nodes → IsEntryOf w i e → (cursor_at w i).words + k ≤ e.words
-    → ComesFirst w w.rec.now.nodes (last_at w i + k) i → GoesOnBy work i k c d
-    → HasFollowed w i (words_after w i k) v → IsAt work v d
-words_run work zero w v c d i e is bi entry le first goes f =
+-- it has come there by so many words of node i more
+pub record HasCome (work : Work) (v : Cursors) (d : Core) (before : List Told) (i k : ℕ) : Type 0 where
+  pub more : List Told
+  pub events : events_told more ≡ replicate k (Exec i)
+  pub at : IsAt work v d (before ++ more)
+
+words_run : (work : Work) (k : ℕ) (w v : Cursors) (c d : Core) (before : List Told) (i : ℕ) (e : JournalEntry)
+    → IsAt work w c before → i < w.rec.now.nodes → IsEntryOf w i e → (cursor_at w i).words + k ≤ e.words
+    → (0 < k → ComesFirst w w.rec.now.nodes (last_at w i + k) i) → GoesOnBy work i k c d
+    → HasFollowed w i (words_after w i k) v → HasCome work v d before i k
+words_run work zero w v c d before i e is bi entry le first goes f =
     let none = words_none w i in
-    subst (λ (z : Core). IsAt work v z) goes
-    (at_same work w v c f.rec_is
-    (λ k. ⊎_elim
-    (λ (s : k ≡ i). subst (λ z. cursor_at v z ≡ cursor_at w z) (sym s) (f.own ∙ sym none.own))
-    (λ (o : k ≢ i). f.others k o) (cases_eq k i)) is)
-words_run work (suc k) w v c d i e is bi entry le first goes f =
+    record {
+      more = [];
+      events = refl;
+      at = subst (λ (l : List Told). IsAt work v d l) (sym (append-nil before))
+          (subst (λ (z : Core). IsAt work v z before) goes
+          (at_same work w v c before f.rec_is
+          (λ k. ⊎_elim
+          (λ (s : k ≡ i). subst (λ z. cursor_at v z ≡ cursor_at w z) (sym s) (f.own ∙ sym none.own))
+          (λ (o : k ≢ i). f.others k o) (cases_eq k i)) is));
+    }
+words_run work (suc k) w v c d before i e is bi entry le comes goes f =
+    let first = comes (omega arith) in
     let next = event_step work c (Exec i) in
     let u = followed_to w i (after_word w i) in
     let g = has_followed w i (after_word w i) in
+    let x = word_next w i in
     let last : last_at w i + suc k ≡ last_at u i + k =
     (let a : last_at u i ≡ last_at w i + 1 = ap (λ (x : Cursor). x.last) g.own in omega arith) in
     let within : (cursor_at u i).words + k ≤ e.words =
     (let a : (cursor_at u i).words ≡ (cursor_at w i).words + 1 =
     ap (λ (x : Cursor). x.words) g.own in omega arith) in
-    words_run work k u v next d i e
-    (one_word work w u c i e is bi entry (omega arith)
+    let rest = words_run work k u v next d (before ++ x ∷ []) i e
+    (one_word work w u c before i e is bi entry (omega arith)
     (first_sooner w w.rec.now.nodes (last_at w i + suc k) (last_at w i + 1) i (omega arith) first)
     goes.0 g)
     bi (entry_kept w u i 1 e g entry) within
-    (subst (λ x. ComesFirst u w.rec.now.nodes x i) last
+    (λ some. subst (λ x. ComesFirst u w.rec.now.nodes x i) last
     (first_kept w u i w.rec.now.nodes (last_at w i + suc k) (after_word w i) g first))
-    goes.2 (words_behind w u v i k g f)
+    goes.2 (words_behind w u v i k g f) in
+    record {
+      more = x ∷ rest.more;
+      events = ap (λ es. Exec i ∷ es) rest.events;
+      at = subst (λ (l : List Told). IsAt work v d l) (append_assoc before (x ∷ []) rest.more) rest.at;
+    }
 
 -- 4. Of a run
+
+pub made_words : (a b : Replayer) (before : List Told) (i k : ℕ) (e : JournalEntry) → HasMade a before
+    → i < a.cursors.rec.now.nodes → IsEntryOf a.cursors i e
+    → (cursor_at a.cursors i).words + k ≤ e.words
+    → (0 < k → ComesFirst a.cursors a.cursors.rec.now.nodes (last_at a.cursors i + k) i)
+    → HasPassedWords (work_of a.core) i k (core_of a.core) (core_of b.core)
+    → work_of b.core ≡ work_of a.core
+    → HasFollowed a.cursors i (words_after a.cursors i k) b.cursors → HasMadeWords b before i k
+made_words a b before i k e is bi entry le first p work f =
+    let come = words_run (work_of a.core) k a.cursors b.cursors (core_of a.core) p.last before i e
+    (at_of a before is) bi entry le first p.goes_on f in
+    let at : IsAt (work_of b.core) b.cursors (core_of b.core) (before ++ come.more) =
+    subst (λ (w : Work). IsAt w b.cursors (core_of b.core) (before ++ come.more)) (sym work)
+    (at_alike (work_of a.core) b.cursors p.last (core_of b.core) (before ++ come.more) p.alike come.at) in
+    record {
+      more = come.more;
+      events = come.events;
+      made = record { lawful = at.lawful; nodes = at.nodes; way = at.way };
+    }
 
 pub run_words : (a b : Replayer) (i k : ℕ) (e : JournalEntry) → IsRunning a
     → i < a.cursors.rec.now.nodes → IsEntryOf a.cursors i e
@@ -200,9 +231,5 @@ pub run_words : (a b : Replayer) (i k : ℕ) (e : JournalEntry) → IsRunning a
     → work_of b.core ≡ work_of a.core
     → HasFollowed a.cursors i (words_after a.cursors i k) b.cursors → IsRunning b
 run_words a b i k e is bi entry le first p work f =
-    let at : IsAt (work_of b.core) b.cursors (core_of b.core) =
-    subst (λ (w : Work). IsAt w b.cursors (core_of b.core)) (sym work)
-    (at_alike (work_of a.core) b.cursors p.last (core_of b.core) p.alike
-    (words_run (work_of a.core) k a.cursors b.cursors (core_of a.core) p.last i e (at_of a is) bi
-    entry le first p.goes_on f)) in
-    record { lawful = at.lawful; nodes = at.nodes; way = at.way }
+    let made = made_words a b is.way.0 i k e (made_of a is) bi entry le (λ some. first) p work f in
+    running_of b (is.way.0 ++ made.more) made.made

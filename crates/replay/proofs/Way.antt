@@ -43,7 +43,7 @@ head_of work r left last c i x more n w a =
     (below_behind stamp_told maker_told r.nodes w.0 w.1.rest w.1.are_told.below))
     w.1.each a.below a.maker_is a.left_is a.before
 
-event_alike : (work : Work) (c d : Core) (e : Event) → May work c e
+pub event_alike : (work : Work) (c d : Core) (e : Event) → May work c e
     → AreAlike work.layout.nodes c d
     → AreAlike work.layout.nodes (event_step work c e) (event_step work d e)
 event_alike work c d e may a = after_alike work c d (e ∷ []) a (may, tt)

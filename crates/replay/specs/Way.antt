@@ -1,5 +1,5 @@
 -- Helps the code alone: how far the journals of a record were followed, and a core on its way.
-use Rattle.std.specs.Prelude.{◌≡◌, ◌≢◌, ℕ, true, zero, suc, ◌+◌, ◌-◌, ◌<◌, ◌≤◌, ◌⊎◌, List, [], ◌∷◌, ◌++◌, drop, map, length, slice_index_or, Option, MatchOption}
+use Rattle.std.specs.Prelude.{◌≡◌, ◌≢◌, ℕ, true, zero, suc, ◌+◌, ◌-◌, ◌<◌, ◌≤◌, ◌⊎◌, List, [], ◌∷◌, ◌++◌, drop, map, length, replicate, slice_index_or, Option, MatchOption}
 use Rattle.run_order.specs.node_model.declared.Entry.{Entry as JournalEntry}
 use Rattle.run_order.specs.node_model.Node.{Work, standing_of}
 use Rattle.run_order.specs.node_model.Turns.{silent, word_turn}
@@ -173,6 +173,12 @@ pub record HasMadeWord (old new : Replayer) (before : List Told) (i : ℕ) : Typ
   pub stamp : ((core_of new.core).nodes i).stamp ≡ stamp_told told
   pub silent : IsSilent (work_of old.core) (core_of old.core) (Exec i)
 
+-- a run has made so many words more, of node i
+pub record HasMadeWords (new : Replayer) (before : List Told) (i words : ℕ) : Type 0 where
+  pub more : List Told
+  pub events : events_told more ≡ replicate words (Exec i)
+  pub made : HasMade new (before ++ more)
+
 -- these words of a node are told of next, before the events of all others, and it may execute one
 pub record IsStretch (r : Replayer) (s : WordsAhead) : Type 0 where
   pub node : s.node < r.cursors.rec.now.nodes
@@ -187,6 +193,12 @@ pub record IsWordLess (old new : WordsAhead) : Type 0 where
   pub node : new.node ≡ old.node
   pub entry : new.entry ≡ old.entry
   pub words : old.words ≡ new.words + 1
+
+-- a stretch has so many words less
+pub record IsLessBy (words : ℕ) (old new : WordsAhead) : Type 0 where
+  pub node : new.node ≡ old.node
+  pub entry : new.entry ≡ old.entry
+  pub left : old.words ≡ new.words + words
 
 -- no journal tells of more
 abbrev pub AreThrough : Replayer → Type 0

@@ -2,6 +2,7 @@
 
 use crate::cursor::{Cursors, First};
 use crate::refused::{ReplayRefused, ReplayRule};
+use dsm_core::node_machine::Visits;
 use dsm_core::{Core, Event, Outcome, Seen, Work};
 use run_order::node_model::{Entry, Standing};
 use run_record::Record;
@@ -33,13 +34,18 @@ impl<'a> Replayer<'a> {
     ghost use Rattle.dsm_core.specs.rewriting_law.Bounds.{RunsRewritten};
     ghost use Rattle.dsm_core.specs.CoreParts.{work_in, work_of, core_of, outcome_of};
     ghost use Rattle.dsm_core.specs.CoreParts.{event_of};
+    ghost use Rattle.dsm_core.specs.CoreWords.{HasPassedWords};
+    ghost use Rattle.dsm_core.specs.node_machine.node_words.Visits.{AreCounted};
+    ghost use Rattle.dsm_core.specs.node_machine.node_words.VisitTables.{AreVisitsIn};
+    ghost use Rattle.dsm_core.specs.node_machine.node_words.VisitTables.{StayVisits, visits_of};
     ghost use Rattle.run_record.specs.Record.{IsRecord};
     ghost use Rattle.replay.specs.Refusals.{IsFirstBroken, IsUnfinished};
     ghost use Rattle.replay.specs.Replay.{IsReplay, TellsWholeRun};
     ghost use Rattle.replay.specs.Way.{IsRunning, AreThrough, IsSame, IsEntryOf, IsFirst};
     ghost use Rattle.replay.specs.Way.{ComesFirst, HasFollowed, cursor_at, last_at, entries_at};
     ghost use Rattle.replay.specs.Way.{all_left, HasMade, HasMadeOne, IsNextOf, IsNextWord};
-    ghost use Rattle.replay.specs.Way.{IsNextTake, HasMadeWord, IsStretch, IsWordLess};
+    ghost use Rattle.replay.specs.Way.{IsNextTake, HasMadeWord, HasMadeWords, IsStretch};
+    ghost use Rattle.replay.specs.Way.{IsLessBy, IsWordLess};
     ghost use Rattle.replay.specs.Way.{core_in, record_in, events_left};
     ghost use Rattle.replay.specs.Told.{Told};
     ghost use Rattle.replay.specs.declared.refused.ReplayRule.{ReplayRule as Rules};
@@ -151,6 +157,33 @@ impl<'a> Replayer<'a> {
         self.cursors.follow_word(stretch.node, stretch.entry);
         stretch.words -= 1;
         true
+    }
+
+    /// Makes words of a stretch one by one, as long as they print nothing and send nothing, count
+    /// among the visits, and the node may execute another behind them. It gives how many.
+    pub fn make_silent_words(&mut self, stretch: &mut WordsAhead, visits: &mut Visits) -> u64
+        requires running { IsRunning self.old }
+        requires stretch { IsStretch self.old stretch.old }
+        requires table { AreVisitsIn (work_of (core_in self.old)).image visits.old }
+        ensures made { (before : List Told) → HasMade self.old before
+            → HasMadeWords self.new before stretch.old.node result }
+        ensures passed { HasPassedWords (work_of (core_in self.old)) stretch.old.node result
+            (core_of (core_in self.old)) (core_of (core_in self.new)) }
+        ensures visits { AreCounted (work_of (core_in self.old)) result
+            ((core_of (core_in self.old)).nodes stretch.old.node) (visits_of visits.old)
+            (visits_of visits.new) }
+        ensures table { StayVisits visits.old visits.new }
+        ensures stretch { IsStretch self.new stretch.new }
+        ensures left { IsLessBy result stretch.old stretch.new }
+        ensures fewer { 0 < result → events_left self.new < events_left self.old }
+        ensures most { events_left self.new ≤ events_left self.old }
+        ensures same { IsSame self.old self.new }
+    {
+        let words = self.core.run_visiting(stretch.node, stretch.words, visits);
+        self.cursors
+            .follow_words(stretch.node, stretch.entry, words);
+        stretch.words -= words;
+        words
     }
 
     /// Makes the next event, which is a word.

@@ -29,7 +29,7 @@ returns-clause-stretch c = λ yes.
     let d : Replayer = record { core = c.exec_silent.new.self; cursors = c.follow_word.new.self } in
     let some = c.requires.some in
     let p = c.exec_silent.ensures.passed c.if-not-exec_silent.false in
-    stretch_on a d s (s.words - 1) (omega (arith, some)) c.requires.stretch c.follow_word.ensures.followed
+    stretch_on a d s 1 (s.words - 1) (omega (arith, some)) c.requires.stretch c.follow_word.ensures.followed
     (subst (λ (z : Work). May z (core_of d.core) (Exec s.node)) (sym c.exec_silent.ensures.work) p.may)
 
 pub returns-clause-fewer : goal.returns-clause-fewer

@@ -1,0 +1,13 @@
+-- Words of the nodes and lists are those of the core.
+use Rattle.dsm_core.specs.CoreParts.{work_of, core_of}
+use Rattle.dsm_core.proofs.CoreRuns.{is_gone}
+use Rattle.dsm_core.proofs.Words.{passed_words_go}
+use Rattle.dsm_core.proofs.cores.Core.run_visiting.Goals as goal
+
+pub invariant_of-self : goal.invariant_of-self
+invariant_of-self c =
+    let p = c.self.inside.parts in
+    let q = c.run_visiting.new.self in
+    is_gone p q c.self.invariant c.run_visiting.ensures.parts c.run_visiting.ensures.work
+    (passed_words_go (work_of p) c.args.node c.run_visiting.result (core_of p) (core_of q)
+    c.run_visiting.ensures.passed)

@@ -1,0 +1,93 @@
+-- Words of the nodes and lists are those of the core.
+use Rattle.std.proofs.Common.{◌∙◌, sym, subst}
+use Rattle.run_order.specs.node_model.Node.{opening_node}
+use Rattle.run_order.specs.node_model.Core.{Exec, May}
+use Rattle.node_machine.specs.node_words.Visits.{AreCounted}
+use Rattle.node_machine.specs.node_words.VisitTables.{AreVisitsIn, visits_of}
+use Rattle.dsm_core.specs.CoreParts.{CoreParts, work_of, core_with, core_of, AreParts, HasStampsInRange}
+use Rattle.dsm_core.specs.CoreWords.{HasPassedWords}
+use Rattle.dsm_core.specs.CoreSteps.{CanExecute}
+use Rattle.dsm_core.proofs.CoreRuns.{parts_kept, can_make}
+use Rattle.dsm_core.proofs.parts.Parts.run_visiting.Goals as goal
+
+pub run_visiting-requires-clause-allowed : goal.run_visiting-requires-clause-allowed
+run_visiting-requires-clause-allowed c =
+    let p : CoreParts = record {
+      program = c.self.inside.program.now;
+      image = c.self.inside.image.now;
+      layout = c.self.inside.layout;
+      budget = c.self.inside.budget;
+      nodes = c.self.inside.nodes.items;
+      lists = c.self.inside.lists.items;
+    } in
+    let are = subst AreParts (sym c.self.view_is) c.requires.parts in
+    let range = subst (λ (q : CoreParts). HasStampsInRange q.layout.nodes (core_of q))
+    (sym c.self.view_is) c.requires.range in
+    let may = subst (λ (q : CoreParts). May (work_of q) (core_of q) (Exec c.args.node))
+    (sym c.self.view_is) c.requires.enabled in
+    subst (λ z. CanExecute z p.nodes c.args.node) (sym c.nodes-count.ensures.nodes)
+    (can_make p (Exec c.args.node) are range may)
+
+pub run_visiting-requires-clause-table : goal.run_visiting-requires-clause-table
+run_visiting-requires-clause-table c =
+    let p : CoreParts = record {
+      program = c.self.inside.program.now;
+      image = c.self.inside.image.now;
+      layout = c.self.inside.layout;
+      budget = c.self.inside.budget;
+      nodes = c.self.inside.nodes.items;
+      lists = c.self.inside.lists.items;
+    } in
+    let are = subst AreParts (sym c.self.view_is) c.requires.parts in
+    record {
+      work = work_of p;
+      runs = are.works;
+      table = subst (λ (q : CoreParts). AreVisitsIn (work_of q).image c.args.visits.now) (sym c.self.view_is)
+          c.requires.table;
+    }
+
+pub returns-clause-parts : goal.returns-clause-parts
+returns-clause-parts c =
+    let p : CoreParts = record {
+      program = c.self.inside.program.now;
+      image = c.self.inside.image.now;
+      layout = c.self.inside.layout;
+      budget = c.self.inside.budget;
+      nodes = c.self.inside.nodes.items;
+      lists = c.self.inside.lists.items;
+    } in
+    let are = subst AreParts (sym c.self.view_is) c.requires.parts in
+    parts_kept p c.run_visiting.new.nodes.items p.lists are
+    (c.run_visiting.ensures.count ∙ c.nodes-count.ensures.nodes) are.lists c.run_visiting.ensures.works
+
+pub returns-clause-passed : goal.returns-clause-passed
+returns-clause-passed c =
+    let p : CoreParts = record {
+      program = c.self.inside.program.now;
+      image = c.self.inside.image.now;
+      layout = c.self.inside.layout;
+      budget = c.self.inside.budget;
+      nodes = c.self.inside.nodes.items;
+      lists = c.self.inside.lists.items;
+    } in
+    let are = subst AreParts (sym c.self.view_is) c.requires.parts in
+    let after = core_with (work_of p) c.run_visiting.new.nodes.items p.lists in
+    subst (λ (q : CoreParts). HasPassedWords (work_of q) c.args.node c.run_visiting.result (core_of q)
+    after) c.self.view_is
+    (c.run_visiting.ensures.passed (work_of p) p.lists (sym c.nodes-count.ensures.nodes) are.works)
+
+pub returns-clause-visits : goal.returns-clause-visits
+returns-clause-visits c =
+    let p : CoreParts = record {
+      program = c.self.inside.program.now;
+      image = c.self.inside.image.now;
+      layout = c.self.inside.layout;
+      budget = c.self.inside.budget;
+      nodes = c.self.inside.nodes.items;
+      lists = c.self.inside.lists.items;
+    } in
+    let are = subst AreParts (sym c.self.view_is) c.requires.parts in
+    subst (λ (q : CoreParts). AreCounted (work_of q) c.run_visiting.result ((core_of q).nodes c.args.node)
+    (visits_of c.args.visits.now) (visits_of c.run_visiting.new.visits)) c.self.view_is
+    (c.run_visiting.ensures.visits (work_of p) (opening_node (work_of p) c.args.node) (sym c.nodes-count.ensures.nodes)
+    are.works)
