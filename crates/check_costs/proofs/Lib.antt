@@ -1,4 +1,5 @@
 mod Adding
+pub mod Alike
 mod Instructions
 pub mod Labelling
 mod Numbering

@@ -5,7 +5,7 @@ use Rattle.std.proofs.lemmas.Bool.Decides.{eqb_tells}
 use Rattle.std.proofs.lemmas.List.{length-map, length-set, get_or-set_same, get_or-set_other, map-append, same_lists}
 use Rattle.std.proofs.lemmas.List.Elements.{filter-append}
 use Rattle.std.proofs.lemmas.List.FromFn.{get_or-map-range_with_len, length-map-range_with_len}
-use Rattle.std.proofs.lemmas.List.Sums.{sum_by-cons, sum_by_push}
+use Rattle.std.proofs.lemmas.List.Sums.{sum_by-append, sum_by-cons}
 use Rattle.check_costs.specs.declared.counts.WordCounts.{WordCounts}
 use Rattle.check_costs.specs.Counts.{counts_by, plus, by_kind}
 use Rattle.check_costs.specs.Tally.{Executed, executed_in, steps_in, kinds_executed, tally_in, tally_of, AreTotals, AreWithin}
@@ -16,63 +16,73 @@ use Rattle.check_costs.proofs.Totals.{one_there, sums_add, sums_same, total_from
 abbrev pub count_of : Executed → WordCounts
 count_of w = counts_by (cond w.commits 1 0) (w.label.kind ∷ [])
 
--- 1. One word more
+-- 1. Words more, of one function
 
-module _ (words : List Executed) (w : Executed) where
-  one_in : (f : ℕ) → eqb w.label.function f ≡ true → executed_in f (words ++ w ∷ []) ≡ executed_in f words ++ w ∷ []
-  one_in f is =
-      filter-append (λ (x : Executed). eqb x.label.function f) words (w ∷ [])
-      ∙ ap (λ b. executed_in f words ++ cond b (w ∷ []) []) is
+module _ (words more : List Executed) (m : ℕ) (mine : (f : ℕ) → eqb m f ≡ true → executed_in f more ≡ more)
+    (others : (f : ℕ) → eqb m f ≡ false → executed_in f more ≡ []) where
+  more_in : (f : ℕ) → eqb m f ≡ true → executed_in f (words ++ more) ≡ executed_in f words ++ more
+  more_in f is =
+      filter-append (λ (x : Executed). eqb x.label.function f) words more
+      ∙ ap (λ ys. executed_in f words ++ ys) (mine f is)
 
-  one_out : (f : ℕ) → eqb w.label.function f ≡ false → executed_in f (words ++ w ∷ []) ≡ executed_in f words
-  one_out f is =
-      filter-append (λ (x : Executed). eqb x.label.function f) words (w ∷ [])
-      ∙ ap (λ b. executed_in f words ++ cond b (w ∷ []) []) is
+  more_out : (f : ℕ) → eqb m f ≡ false → executed_in f (words ++ more) ≡ executed_in f words
+  more_out f is =
+      filter-append (λ (x : Executed). eqb x.label.function f) words more
+      ∙ ap (λ ys. executed_in f words ++ ys) (others f is)
       ∙ append-nil (executed_in f words)
 
-  with_one : (f : ℕ) → eqb w.label.function f ≡ true
-      → tally_in (words ++ w ∷ []) f ≡ plus (tally_in words f) (count_of w)
-  with_one f is =
+  with_more : (f : ℕ) → eqb m f ≡ true
+      → tally_in (words ++ more) f ≡ plus (tally_in words f) (counts_by (steps_in more) (kinds_executed more))
+  with_more f is =
       let old = executed_in f words in
-      (λ j. counts_by (steps_in (one_in f is j)) (kinds_executed (one_in f is j)))
-      ∙ (λ j. counts_by (sum_by_push (λ (x : Executed). cond x.commits 1 0) old w j)
-      (map-append (λ (x : Executed). x.label.kind) old (w ∷ []) j))
-      ∙ sym (plus_is (steps_in old) (cond w.commits 1 0) (kinds_executed old) (w.label.kind ∷ []))
+      (λ j. counts_by (steps_in (more_in f is j)) (kinds_executed (more_in f is j)))
+      ∙ (λ j. counts_by (sum_by-append (λ (x : Executed). cond x.commits 1 0) old more j)
+      (map-append (λ (x : Executed). x.label.kind) old more j))
+      ∙ sym (plus_is (steps_in old) (steps_in more) (kinds_executed old) (kinds_executed more))
 
-  without : (f : ℕ) → eqb w.label.function f ≡ false → tally_in (words ++ w ∷ []) f ≡ tally_in words f
-  without f is = λ j. counts_by (steps_in (one_out f is j)) (kinds_executed (one_out f is j))
+  without : (f : ℕ) → eqb m f ≡ false → tally_in (words ++ more) f ≡ tally_in words f
+  without f is = λ j. counts_by (steps_in (more_out f is j)) (kinds_executed (more_out f is j))
 
-  pub one_tallied : (n : ℕ) (old : List WordCounts) (here more : WordCounts) → old ≡ tally_of n words
-      → w.label.function < length old → here ≡ get_or old w.label.function here
-      → more ≡ plus here (count_of w) → set old w.label.function more ≡ tally_of n (words ++ w ∷ [])
-  one_tallied n old here more is low at sum =
+  pub more_tallied : (n : ℕ) (old : List WordCounts) (here sum : WordCounts) → old ≡ tally_of n words
+      → m < length old → here ≡ get_or old m here
+      → sum ≡ plus here (counts_by (steps_in more) (kinds_executed more)) → set old m sum ≡ tally_of n (words ++ more)
+  more_tallied n old here sum is low at sum_is =
       let long = length-map-range_with_len (tally_in words) 0 (n + 1) in
-      let longer = length-map-range_with_len (tally_in (words ++ w ∷ [])) 0 (n + 1) in
+      let longer = length-map-range_with_len (tally_in (words ++ more)) 0 (n + 1) in
       let same = ap length is in
-      let kept = length-set old w.label.function more in
-      same_lists (set old w.label.function more) (tally_of n (words ++ w ∷ []))
+      let kept = length-set old m sum in
+      same_lists (set old m sum) (tally_of n (words ++ more))
       (omega (arith, long, longer, same, kept))
       (λ k d within. let low : k < n + 1 = omega (arith, within, kept, same, long) in
-      at_one k d low ∙ sym (get_or-map-range_with_len (tally_in (words ++ w ∷ [])) 0 (n + 1) k k d low (omega arith)))
+      at_one k d low ∙ sym (get_or-map-range_with_len (tally_in (words ++ more)) 0 (n + 1) k k d low (omega arith)))
     where
       was : (k : ℕ) (d : WordCounts) → k < n + 1 → get_or old k d ≡ tally_in words k
       was k d low = ap (λ xs. get_or xs k d) is
           ∙ get_or-map-range_with_len (tally_in words) 0 (n + 1) k k d low (omega arith)
 
-      at_one : (k : ℕ) (d : WordCounts) → k < n + 1
-          → get_or (set old w.label.function more) k d ≡ tally_in (words ++ w ∷ []) k
-      at_one k d high = elim (eqb_tells w.label.function k) [
+      at_one : (k : ℕ) (d : WordCounts) → k < n + 1 → get_or (set old m sum) k d ≡ tally_in (words ++ more) k
+      at_one k d high = elim (eqb_tells m k) [
         | inl there ↦
             let found : here ≡ tally_in words k =
             at ∙ ap (λ f. get_or old f here) there.1 ∙ was k here high in
-            ap (λ f. get_or (set old w.label.function more) f d) (sym there.1)
-            ∙ get_or-set_same old w.label.function more d low
-            ∙ sum ∙ ap (λ c. plus c (count_of w)) found
-            ∙ sym (with_one k there.0)
+            ap (λ f. get_or (set old m sum) f d) (sym there.1)
+            ∙ get_or-set_same old m sum d low
+            ∙ sum_is ∙ ap (λ c. plus c (counts_by (steps_in more) (kinds_executed more))) found
+            ∙ sym (with_more k there.0)
         | inr apart ↦
-            get_or-set_other old w.label.function k more d (λ s. apart.1 (sym s))
+            get_or-set_other old m k sum d (λ s. apart.1 (sym s))
             ∙ was k d high ∙ sym (without k apart.0)
       ]
+
+pub one_tallied : (words : List Executed) (w : Executed) (n : ℕ) (old : List WordCounts) (here sum : WordCounts)
+    → old ≡ tally_of n words → w.label.function < length old → here ≡ get_or old w.label.function here
+    → sum ≡ plus here (count_of w) → set old w.label.function sum ≡ tally_of n (words ++ w ∷ [])
+one_tallied words w n old here sum is low at sum_is =
+    let one = sum_by-cons (λ (x : Executed). cond x.commits 1 0) w [] in
+    let steps : cond w.commits 1 0 ≡ steps_in (w ∷ []) = omega (arith, one) in
+    more_tallied words (w ∷ []) w.label.function (λ f there. ap (λ b. cond b (w ∷ []) []) there)
+    (λ f apart. ap (λ b. cond b (w ∷ []) []) apart) n old here sum is low at
+    (sum_is ∙ ap (λ k. plus here (counts_by k (w.label.kind ∷ []))) steps)
 
 -- of no words
 pub none_tallied : (n : ℕ) → replicate n (counts_by 0 []) ++ counts_by 0 [] ∷ [] ≡ tally_of n []

@@ -11,7 +11,7 @@ ghost use Rattle.check_costs.specs.Counts.{AreSums, by_kind, counts_by, counts_o
 
 use crate::entries::push_kinds;
 use crate::functions::Functions;
-use crate::kinds::{WordKind, times};
+use crate::kinds::{WordKind, times, times_alike};
 use elf_symbols::Symbols;
 use std::alloc::{AllocError, Global};
 use templates::{Code, Plan};
@@ -34,7 +34,7 @@ pub struct WordCounts {
 }
 
 impl WordCounts {
-    ghost use Rattle.std.specs.Prelude.{◌≡◌, ◌∷◌, [], if◌then◌else◌, IfSome, OnOk};
+    ghost use Rattle.std.specs.Prelude.{◌≡◌, ◌∷◌, [], if◌then◌else◌, replicate, IfSome, OnOk};
     ghost use Rattle.check_costs.specs.Counts.{counts_by, plus};
 
     /// That of so many instructions, and of words of these kinds.
@@ -55,6 +55,25 @@ impl WordCounts {
         }
     }
 
+    /// That of so many words of a kind, of which each commits a step or none does.
+    pub(crate) fn alike(kind: WordKind, words: usize, commits: bool) -> WordCounts
+        ensures { result
+            ≡ counts_by (if commits then words else 0) (replicate words kind) }
+    {
+        WordCounts {
+            instructions: if commits { words } else { 0 },
+            words,
+            own: times_alike(WordKind::Own, kind, words),
+            flag_checks: times_alike(WordKind::FlagCheck, kind, words),
+            state_checks: times_alike(WordKind::StateCheck, kind, words),
+            store_checks: times_alike(WordKind::StoreCheck, kind, words),
+            batches: times_alike(WordKind::Batch, kind, words),
+            polls: times_alike(WordKind::Poll, kind, words),
+            jumps: times_alike(WordKind::Jump, kind, words),
+            spills: times_alike(WordKind::Spill, kind, words),
+        }
+    }
+
     /// This cost and another, if there is room.
     pub(crate) fn plus(&self, other: &WordCounts) -> Option<WordCounts>
         ensures { IfSome result (λ c. c ≡ plus self.now other.now) }
@@ -71,6 +90,19 @@ impl WordCounts {
             jumps: self.jumps.checked_add(other.jumps)?,
             spills: self.spills.checked_add(other.spills)?,
         })
+    }
+
+    /// Adds another cost to this one. Fails where a count has no room.
+    pub(crate) fn increase(&mut self, more: &WordCounts) -> Result<(), AllocError>
+        ensures { OnOk result (self.new ≡ plus self.old more.now) }
+    {
+        match self.plus(more) {
+            Some(sum) => {
+                *self = sum;
+                Ok(())
+            }
+            None => Err(AllocError),
+        }
     }
 
     /// Counts a word of a kind more, which perhaps commits a step. Fails where a count has no room.

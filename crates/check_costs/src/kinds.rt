@@ -1,6 +1,6 @@
 //! What words of rewritten code are there for.
 
-ghost use Rattle.std.specs.Prelude.{◌≡◌, ◌≤◌, length};
+ghost use Rattle.std.specs.Prelude.{◌≡◌, ◌≤◌, length, replicate};
 ghost use Rattle.check_costs.specs.Counts.{times};
 ghost use Rattle.check_costs.specs.Kinds.{check_of};
 
@@ -63,4 +63,11 @@ pub(crate) fn times(kind: WordKind, kinds: &[WordKind]) -> usize
         }
     }
     count
+}
+
+/// How many of so many words, all of one kind, are of another.
+pub(crate) fn times_alike(other: WordKind, kind: WordKind, words: usize) -> usize
+    ensures { result ≡ times other (replicate words kind) }
+{
+    if kind == other { words } else { 0 }
 }

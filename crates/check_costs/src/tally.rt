@@ -15,7 +15,8 @@ pub struct Tally {
 }
 
 impl Tally {
-    ghost use Rattle.std.specs.Prelude.{◌≡◌, ◌<◌, ◌++◌, ◌∷◌, [], ℕ, List, length, IfOk, OnOk};
+    ghost use Rattle.std.specs.Prelude.{◌≡◌, ◌<◌, ◌++◌, ◌∷◌, [], ℕ, List, length, replicate};
+    ghost use Rattle.std.specs.Prelude.{IfOk, OnOk};
     ghost use Rattle.check_costs.specs.Tally.{Executed, tally_of};
     ghost use Rattle.check_costs.specs.Given.{IsTallyOf};
 
@@ -36,6 +37,19 @@ impl Tally {
             (words ++ record { label = label; commits = commits } ∷ []) self.new) }
     {
         self.counts[label.function].count_word(label.kind, commits)?;
+        Ok(())
+    }
+
+    /// Adds words of a label that are executed, of which each commits a step of the original or
+    /// none does. Fails where a count has no room.
+    pub fn add_words(&mut self, label: Label, words: usize, commits: bool) -> Result<(), AllocError>
+        requires function { label.function < length self.old.counts.items }
+        ensures { (functions : ℕ) (before : List Executed) → IsTallyOf functions before self.old
+            → OnOk result (IsTallyOf functions
+            (before ++ replicate words (record { label = label; commits = commits })) self.new) }
+    {
+        let more = WordCounts::alike(label.kind, words, commits);
+        self.counts[label.function].increase(&more)?;
         Ok(())
     }
 

@@ -1,5 +1,6 @@
 -- The label of a word.
 use Rattle.std.proofs.Common.{◌≡◌, ℕ, ◌+◌, ◌<◌, ◌≤◌, List, [], ◌∷◌, length, get_or, sym, ap, ◌∙◌, subst, arith, inl, inr}
+use Rattle.std.specs.Prelude.{All}
 use Rattle.std.proofs.lemmas.Bool.Decides.{leb_tells}
 use Rattle.std.proofs.lemmas.List.{get_or_default, get_or_past}
 use Rattle.std.proofs.lemmas.List.Elements.{All-nil, All-cons}
@@ -39,6 +40,22 @@ pub some_labels : (symbols : List Symbol) (work : Work) (plan : List PlanEntry) 
 some_labels symbols work plan labels are = subst (λ ls. 0 < length ls) (sym are) (omega arith)
 
 -- 2. Their functions
+
+-- the one that stands for a missing one is there, so all that are found are within
+pub found_within : (labels : List Label) (m k : ℕ) (first : Label) → All (λ (l : Label). l.function ≤ m) labels
+    → 0 < length labels → get_or labels 0 first ≡ first → (get_or labels k first).function ≤ m
+found_within labels m k first within some head = elim (leb_tells (length labels) k) [
+  | inl past ↦
+      subst (λ (l : Label). l.function ≤ m) (sym (get_or_past labels k first past.1))
+      (subst (λ (l : Label). l.function ≤ m) head (within 0 first some))
+  | inr low ↦ within k first (let other = low.1 in omega (arith, other))
+]
+
+pub labels_fit : (symbols : List Symbol) (work : Work) (plan : List PlanEntry) (labels : List Label)
+    → labels ≡ labels_of symbols work.program.code plan → All (λ (l : Label). l.function ≤ length symbols) labels
+labels_fit symbols work plan labels are =
+    subst (λ ls. All (λ (l : Label). l.function ≤ length symbols) ls) (sym are)
+    (labels_within symbols work.program.code plan)
 
 label_within : (symbols : List Symbol) (work : Work) (plan : List PlanEntry) (a : ℕ)
     → (label_at symbols work plan a).function ≤ length symbols

@@ -1,4 +1,5 @@
 mod Counted
 mod Labels
+mod Visited
 mod Whole
 mod Words

@@ -1,5 +1,5 @@
 -- A recorded run whose words are counted, from its start to its end.
-use Rattle.std.proofs.Common.{◌≡◌, ◌⊎◌, ℕ, true, false, List, [], ◌∷◌, ◌++◌, length, map, sym, ap, ◌∙◌, subst}
+use Rattle.std.proofs.Common.{◌≡◌, ◌⊎◌, ℕ, false, List, ◌++◌, length, map, sym, ap, ◌∙◌, subst}
 use Rattle.check_costs.specs.elf_symbols.Symbols.{Symbol}
 use Rattle.check_costs.specs.declared.counts.WordCounts.{WordCounts}
 use Rattle.check_costs.specs.Tally.{AreTotals, AreWithin, Executed, tally_of}
@@ -32,23 +32,11 @@ pub record IsOnWay (symbols : List Symbol) (work : Work) (plan : List PlanEntry)
     pub plan_is : plan_in c ≡ plan
     pub rec_is : record_in c ≡ r
 
--- one event more
-pub on_way : (symbols : List Symbol) (work : Work) (plan : List PlanEntry) (r : Record) (c d : Counting)
-    (way : IsOnWay symbols work plan r c) → IsSame c.tracer d.tracer → HasGoneOn symbols d way.seen true
-    → IsOnWay symbols work plan r d
-on_way symbols work plan r c d way same on = record {
-  seen = way.seen ++ on.0 ∷ [];
-  counted = on.1;
-  work_is = same.work ∙ way.work_is;
-  plan_is = same.plan ∙ way.plan_is;
-  rec_is = same.rec_is ∙ way.rec_is;
-}
-
 -- some events more
-pub on_further : (symbols : List Symbol) (work : Work) (plan : List PlanEntry) (r : Record) (c d : Counting)
+pub on_way : (symbols : List Symbol) (work : Work) (plan : List PlanEntry) (r : Record) (c d : Counting)
     (way : IsOnWay symbols work plan r c) → IsSame c.tracer d.tracer → HasCountedMore symbols d way.seen
     → IsOnWay symbols work plan r d
-on_further symbols work plan r c d way same on = record {
+on_way symbols work plan r c d way same on = record {
   seen = way.seen ++ on.0;
   counted = on.1;
   work_is = same.work ∙ way.work_is;

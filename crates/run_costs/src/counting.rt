@@ -1,15 +1,22 @@
 //! A recorded run whose words are counted.
 
-ghost use Rattle.std.specs.Prelude.{◌≡◌, ◌<◌, length, slice_index_or};
+ghost use Rattle.std.specs.Prelude.{◌≡◌, ◌<◌, ◌≤◌, ◌++◌, ℕ, All, List, length, slice_index_or};
+ghost use Rattle.std.specs.Prelude.{IfOk};
 ghost use Rattle.check_costs.specs.declared.labels.Label.{Label as OfWord};
+ghost use Rattle.check_costs.specs.Given.{IsTallyOf};
+ghost use Rattle.check_costs.specs.Tally.{Executed};
+ghost use Rattle.run_trace.specs.node_machine.node_words.VisitTables.{visits_of};
 ghost use Rattle.run_trace.specs.node_model.jump_map.Image.{number_of_word};
 ghost use Rattle.run_trace.specs.Given.{what_of};
 ghost use Rattle.run_trace.specs.Traced as trace;
+ghost use Rattle.run_trace.specs.Tracing.{kinds_traced};
+ghost use Rattle.run_costs.specs.Counting.{word_by, words_by};
 
 use crate::RunCosts;
 use crate::nodes::nodes_of;
 use check_costs::elf_symbols::Symbols;
 use check_costs::{Label, Tally, labels_of};
+use run_trace::node_machine::Visits;
 use run_trace::replay::dsm_core::{Event, Work};
 use run_trace::replay::node_model::jump_map::IMAGE_BASE;
 use run_trace::replay::node_model::jump_map::templates::{Code, Plan};
@@ -24,6 +31,9 @@ pub(crate) struct Counting<'a> {
     tracer: Tracer<'a>,
     /// The labels of the words of rewritten code.
     labels: Vec<Label>,
+    /// How often each word of rewritten code was executed in a stretch.
+    visits: Visits,
+    /// What the other words count.
     tally: Tally,
 }
 
@@ -47,7 +57,7 @@ impl<'a> Counting<'a> {
     ghost use Rattle.run_trace.specs.Traced.{Traced as OfEvent};
     ghost use Rattle.run_trace.specs.Tracing.{events_to_trace, replayer_in};
     ghost use Rattle.run_costs.specs.Costs.{next_word};
-    ghost use Rattle.run_costs.specs.Counting.{HasCounted, HasCountedOne, HasCountedMore};
+    ghost use Rattle.run_costs.specs.Counting.{HasCounted, HasCountedMore};
     ghost use Rattle.run_costs.specs.Counting.{HasGoneOn, IsFewer, IsSameRun};
     ghost use Rattle.run_costs.specs.Counting.{event_seen, words_seen};
     ghost use Rattle.run_costs.specs.Counting.{work_in, plan_in, record_in, node_in};
@@ -72,8 +82,10 @@ impl<'a> Counting<'a> {
         ensures plan { IfOk result (λ c. plan_in c ≡ plan.now) }
         ensures rec { IfOk result (λ c. record_in c ≡ rec.now) }
     {
+        let tracer = Tracer::new(alloc, work, plan, code, rec)?;
         Ok(Counting {
-            tracer: Tracer::new(alloc, work, plan, code, rec)?,
+            visits: tracer.no_visits(alloc, work.image)?,
+            tracer,
             labels: labels_of(alloc, symbols, code, plan)?,
             tally: Tally::new(alloc, symbols.functions().len())?,
         })
@@ -116,12 +128,32 @@ impl<'a> Counting<'a> {
             → events_to_trace self.new.tracer < events_to_trace self.old.tracer) }
     {
         let mut stretch = stretch;
+        self.count_words(&mut stretch);
         while stretch.words > 0 {
             if !self.count_silent_word(&mut stretch)? {
                 return Ok(false);
             }
+            self.count_words(&mut stretch);
         }
         Ok(true)
+    }
+
+    /// Makes words of a stretch, as long as they only compute or access memory and tell by their
+    /// numbers whether they commit, and counts them by these.
+    fn count_words(&mut self, stretch: &mut WordsAhead)
+        requires counted { (symbols : List Symbol) × (seen : List OfEvent)
+            × HasCounted symbols self.old seen }
+        requires stretch { IsStretch (replayer_in self.old.tracer) stretch.old }
+        ensures counted { (symbols : List Symbol) (seen : List OfEvent)
+            → HasCounted symbols self.old seen → HasCountedMore symbols self.new seen }
+        ensures stretch { IsStretch (replayer_in self.new.tracer) stretch.new }
+        ensures less { stretch.new.words ≤ stretch.old.words }
+        ensures fewer { stretch.new.words < stretch.old.words
+            → events_to_trace self.new.tracer < events_to_trace self.old.tracer }
+        ensures most { events_to_trace self.new.tracer ≤ events_to_trace self.old.tracer }
+        ensures same { IsSameRun self.old self.new }
+    {
+        self.tracer.make_silent_words(stretch, &mut self.visits);
     }
 
     /// Makes the next word of a stretch and counts it, where all that it does is to compute or to
@@ -198,7 +230,7 @@ impl<'a> Counting<'a> {
         requires next { IsNextOf self.old.tracer.replayer (core.event_of event) }
         ensures counted { (symbols : List Symbol) (seen : List OfEvent)
             → HasCounted symbols self.old seen
-            → OnOk result (HasCountedOne symbols self.new seen) }
+            → OnOk result (HasCountedMore symbols self.new seen) }
         ensures same { OnOk result (IsSameRun self.old self.new) }
         ensures fewer { OnOk result
             (events_to_trace self.new.tracer < events_to_trace self.old.tracer) }
@@ -218,7 +250,7 @@ impl<'a> Counting<'a> {
         requires next { IsNextOf self.old.tracer.replayer (Exec node) }
         ensures counted { (symbols : List Symbol) (seen : List OfEvent)
             → HasCounted symbols self.old seen
-            → OnOk result (HasCountedOne symbols self.new seen) }
+            → OnOk result (HasCountedMore symbols self.new seen) }
         ensures same { OnOk result (IsSameRun self.old self.new) }
         ensures fewer { OnOk result
             (events_to_trace self.new.tracer < events_to_trace self.old.tracer) }
@@ -238,19 +270,21 @@ impl<'a> Counting<'a> {
         requires next { IsNextOf self.old.tracer.replayer (Take node from) }
         ensures counted { (symbols : List Symbol) (seen : List OfEvent)
             → HasCounted symbols self.old seen
-            → OnOk result (HasCountedOne symbols self.new seen) }
+            → OnOk result (HasCountedMore symbols self.new seen) }
         ensures same { OnOk result (IsSameRun self.old self.new) }
         ensures fewer { OnOk result
             (events_to_trace self.new.tracer < events_to_trace self.old.tracer) }
         ensures refused { (rule : Rules) (i entry : ℕ) → IsErrOf result (Broken rule i entry)
             → IsFirstBroken (work_in self.old) (record_in self.old) rule i entry }
     {
-        self.tracer.take(node, from)?;
+        self.tracer.replayer.make(Event::Take { node, from })?;
         Ok(())
     }
 
     /// What was counted, and what the nodes count.
     pub(crate) fn costs(self, alloc: Global) -> Result<RunCosts, AllocError>
+        requires counted { (symbols : List Symbol) × (seen : List OfEvent)
+            × HasCounted symbols self seen }
         ensures counts { (symbols : List Symbol) (seen : List OfEvent)
             → HasCounted symbols self.entry seen
             → IfOk result (λ c. c.counts.items ≡ tally_of (length symbols)
@@ -261,11 +295,36 @@ impl<'a> Counting<'a> {
             ≡ counts_after (work_in self.entry) (map event_seen seen)) }
     {
         let nodes = nodes_of(alloc, self.tracer.replayer.core())?;
+        let tally = with_visits(self.tally, &self.labels, &self.visits, &self.tracer)?;
         Ok(RunCosts {
-            counts: self.tally.into_counts(),
+            counts: tally.into_counts(),
             nodes,
         })
     }
+}
+
+/// A tally, with the words that visits stand for besides. Fails where a count has no room.
+fn with_visits(
+    tally: Tally,
+    labels: &[Label],
+    visits: &Visits,
+    tracer: &Tracer<'_>,
+) -> Result<Tally, AllocError>
+    requires some { 0 < length labels.now }
+    requires tally { (functions : ℕ) × (words : List Executed) × IsTallyOf functions words tally
+        × All (λ l. l.function ≤ functions) labels.now }
+    ensures { (first : OfWord) (functions : ℕ) (words : List Executed)
+        → slice_index_or labels.now 0 first ≡ first → IsTallyOf functions words tally
+        → IfOk result (IsTallyOf functions
+        (words ++ words_by (word_by first labels.now (kinds_traced tracer.now)) 0
+        (visits_of visits.now))) }
+{
+    let mut tally = tally;
+    for number in 0..visits.len() {
+        let commits = tracer.commits_visited(number);
+        tally.add_words(label_of(labels, number), visits.times(number), commits)?;
+    }
+    Ok(tally)
 }
 
 /// The label of the word at an address, of which the first stands for an address without one.
@@ -274,7 +333,15 @@ fn label_at(labels: &[Label], at: u32) -> Label
     ensures { (first : OfWord) → slice_index_or labels.now 0 first ≡ first
         → result ≡ slice_index_or labels.now (number_of_word at) first }
 {
-    let number = (at.saturating_sub(IMAGE_BASE) / 4) as usize;
+    label_of(labels, (at.saturating_sub(IMAGE_BASE) / 4) as usize)
+}
+
+/// The label of the word of a number, of which the first stands for a number without one.
+fn label_of(labels: &[Label], number: usize) -> Label
+    requires some { 0 < length labels.now }
+    ensures { (first : OfWord) → slice_index_or labels.now 0 first ≡ first
+        → result ≡ slice_index_or labels.now number first }
+{
     if number < labels.len() {
         labels[number]
     } else {

@@ -28,7 +28,7 @@ pub record AreKindsTo (program : Program) (plan : List PlanEntry) (image : List 
 pub no_kinds : (program : Program) (plan : List PlanEntry) (image : List Cell) → AreKindsTo program plan image [] 0
 no_kinds program plan image = record { len = refl; each = λ k lt. absurd (omega (arith, lt)) }
 
-index_at : (k : ℕ) → index_of (image_base + 4 * k) ≡ Some k
+pub index_at : (k : ℕ) → index_of (image_base + 4 * k) ≡ Some k
 index_at k =
     let low : leb image_base (image_base + 4 * k) ≡ true = grind (arith, nat_tests) in
     let four : eqb ((image_base + 4 * k) % 4) 0 ≡ true = grind (arith, nat_tests) in

@@ -7,5 +7,6 @@ mod Meets
 mod TakeEnds
 mod Silent
 pub mod Tracings
+mod Visited
 mod Passes
 pub mod Wholes

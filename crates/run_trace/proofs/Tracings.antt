@@ -8,8 +8,11 @@ use Rattle.node_model.specs.Node.{Work, Node}
 use Rattle.node_model.specs.Core.{Core, Event, Exec, Take, May, AreAlike, opening_core, event_step, take_first, after}
 use Rattle.replay.specs.run_order.OwnRun.{Stamped, maker, node_of, run_of}
 use Rattle.replay.specs.dsm_core.CoreParts.{core_of}
+use Rattle.replay.specs.node_machine.node_words.declared.visits.Visits.{Visits}
+use Rattle.replay.specs.node_machine.node_words.VisitTables.{AreVisitsIn, visits_of}
 use Rattle.replay.specs.Told.{Told, what_told, events_told}
 use Rattle.replay.specs.Way.{HasMade, HasMadeWord, core_in}
+use Rattle.replay.proofs.Way.{event_alike}
 use Rattle.run_trace.specs.declared.tracer.Tracer.{Tracer}
 use Rattle.run_trace.specs.declared.traced.Traced.{Traced as Stored}
 use Rattle.node_model.specs.Turns.{word_turn, take_turn}
@@ -18,7 +21,8 @@ use Rattle.run_trace.specs.Trace.{trace_from, trace_of}
 use Rattle.run_trace.specs.Given.{traced_of}
 use Rattle.run_trace.specs.Kinds.{AreKindsOf}
 use Rattle.run_trace.specs.declared.kinds.CommitKinds.{CommitKinds}
-use Rattle.run_trace.specs.Tracing.{HasTraced, HasTracedOne, HasKinds, IsSame, work_traced, plan_traced}
+use Rattle.run_trace.specs.Visited.{LookByKind}
+use Rattle.run_trace.specs.Tracing.{AreVisitsOf, HasTraced, HasTracedMore, HasTracedOne, HasKinds, IsSame, work_traced, plan_traced}
 
 what_alike : (work : Work) (plan : List PlanEntry) (c d : Core) (e : Event) → May work c e
     → AreAlike work.layout.nodes c d → what_at work plan c e ≡ what_at work plan d e
@@ -89,6 +93,13 @@ kinds_same t u kinds same = subst (λ (w : Work). AreKindsOf w.program (plan_tra
     (subst (λ p. AreKindsOf (work_traced t).program p (work_traced t).image u.kinds) (sym same.plan)
     (subst (λ (k : CommitKinds). AreKindsOf (work_traced t).program (plan_traced t) (work_traced t).image k) (sym same.kinds) kinds))
 
+-- the visits are those of the same words
+pub visits_same : (t u : Tracer) (v : Visits) → IsSame t u → AreVisitsOf t v → AreVisitsOf u v
+visits_same t u v same are = record {
+  micros = subst (λ (work : Work). AreVisitsIn work.image v) (sym same.work) are.micros;
+  look = subst (λ (kinds : CommitKinds). LookByKind kinds (visits_of v)) (sym same.kinds) are.look;
+}
+
 -- one event more was made
 traced_after : (t u : Tracer) (seen : List Traced) (x : Traced) (told : Told) (h : HasTraced t seen)
     → HasMade u.replayer (h.before ++ told ∷ []) → May (work_traced t) (core_of (core_in t.replayer)) told.what.event
@@ -134,3 +145,38 @@ traced_still t u seen h made same = record {
   kinds = kinds_same t u h.kinds same;
   seen_is = h.seen_is ∙ ap₂ (λ w p. trace_of w p h.before) (sym same.work) (sym same.plan);
 }
+
+-- events more were made
+pub events_traced : (t u : Tracer) (seen : List Traced) (told : List Told) (es : List Event) (h : HasTraced t seen)
+    → HasMade u.replayer (h.before ++ told) → events_told told ≡ es → IsSame t u → HasTracedMore u seen h.before es
+events_traced t u seen told es h made are same =
+    let work = work_traced t in
+    let plan = plan_traced t in
+    let o = opening_core work in
+    let more = trace_from work plan (after work o (events_told h.before)) (map what_told told) in
+    record {
+      told = told;
+      events_are = are;
+      more = more;
+      traced = record {
+        before = h.before ++ told;
+        made = made;
+        kinds = kinds_same t u h.kinds same;
+        seen_is = ap (λ l. l ++ more) h.seen_is
+            ∙ sym (ap (trace_from work plan o) (what_append h.before told)
+            ∙ trace_more work plan o (map what_told h.before) (map what_told told))
+            ∙ ap₂ (λ w p. trace_of w p (h.before ++ told)) (sym same.work) (sym same.plan);
+      };
+      before_is = refl;
+    }
+
+-- 2. What events of a run lead to
+
+-- the same event leads cores that are alike to such cores
+pub next_alike : (work : Work) (c d : Core) (e : Event) → May work c e → AreAlike work.layout.nodes c d
+    → AreAlike work.layout.nodes (event_step work c e) (event_step work d e)
+next_alike = event_alike
+
+pub told_append : (xs ys : List Told) → events_told (xs ++ ys) ≡ events_told xs ++ events_told ys
+told_append [] ys = refl
+told_append (x ∷ xs) ys = ap (λ es. x.what.event ∷ es) (told_append xs ys)

@@ -8,6 +8,7 @@ pub mod Tracing
 pub mod Entries
 pub mod Kinds
 pub mod Passing
+pub mod Visited
 pub use Rattle.node_model.specs as node_model
 pub use Rattle.replay.specs.run_order as run_order
 pub use Rattle.replay.specs.node_machine as node_machine

@@ -1,17 +1,21 @@
 -- A recorded run that is made once more, event by event.
-use Rattle.std.specs.Prelude.{◌≡◌, ◌<◌, ℕ, Bool, List, ◌∷◌, [], ◌++◌, Option, None, Some}
+use Rattle.std.specs.Prelude.{◌≡◌, ◌<◌, ℕ, Bool, List, ◌∷◌, [], ◌++◌, replicate, Option, None, Some}
 use Rattle.templates.specs.declared.plans.PlanEntry.{PlanEntry}
 use Rattle.node_model.specs.Node.{Work}
-use Rattle.node_model.specs.Core.{Event, May}
+use Rattle.node_model.specs.Core.{Event, Exec, May}
 use Rattle.replay.specs.run_record.declared.Record.{Record}
 use Rattle.replay.specs.dsm_core.CoreParts.{work_of, core_of}
 use Rattle.replay.specs.declared.events.Replayer.{Replayer}
-use Rattle.replay.specs.Told.{Told}
+use Rattle.replay.specs.node_machine.node_words.declared.visits.Visits.{Visits}
+use Rattle.replay.specs.node_machine.node_words.VisitTables.{AreVisitsIn, visits_of}
+use Rattle.replay.specs.Told.{Told, events_told}
 use Rattle.replay.specs.Way.{HasMade, core_in, record_in, events_left}
+use Rattle.run_trace.specs.declared.kinds.CommitKinds.{CommitKinds}
 use Rattle.run_trace.specs.declared.tracer.Tracer.{Tracer}
 use Rattle.run_trace.specs.declared.traced.Traced.{Traced as Stored}
 use Rattle.run_trace.specs.Traced.{OfWord, Traced, Word, traced_at, word_traced}
 use Rattle.run_trace.specs.Kinds.{AreKindsOf}
+use Rattle.run_trace.specs.Visited.{LookByKind}
 use Rattle.run_trace.specs.Trace.{trace_of, IsTraceOf}
 use Rattle.run_trace.specs.Given.{traced_of}
 
@@ -26,6 +30,9 @@ plan_traced t = t.plan.now
 
 abbrev pub record_traced : Tracer → Record
 record_traced t = record_in t.replayer
+
+abbrev pub kinds_traced : Tracer → CommitKinds
+kinds_traced t = t.kinds
 
 -- it knows when the words of the rewritten code commit
 abbrev pub HasKinds : Tracer → Type 0
@@ -78,6 +85,25 @@ pub record HasTracedSilent (old new : Tracer) (seen : List Traced) (node : ℕ) 
 abbrev pub HasTracedIfSilent : (old new : Tracer) → List Traced → (node : ℕ) → Option Bool → Type 0
 HasTracedIfSilent old new seen node None = HasTraced new seen
 HasTracedIfSilent old new seen node (Some commits) = HasTracedSilent old new seen node commits
+
+-- these events were made behind those that were told of before
+pub record HasTracedMore (new : Tracer) (seen : List Traced) (before : List Told)
+    (events : List Event) : Type 0 where
+  pub told : List Told
+  pub events_are : events_told told ≡ events
+  pub more : List Traced
+  pub traced : HasTraced new (seen ++ more)
+  pub before_is : traced.before ≡ before ++ told
+
+-- so many words of a node were
+abbrev pub HasTracedWords : (new : Tracer) → List Traced → List Told → (node words : ℕ) → Type 0
+HasTracedWords new seen before node words =
+    HasTracedMore new seen before (replicate words (Exec node))
+
+-- these are visits of the words that a run makes
+pub record AreVisitsOf (t : Tracer) (visits : Visits) : Type 0 where
+  pub micros : AreVisitsIn (work_traced t).image visits
+  pub look : LookByKind t.kinds (visits_of visits)
 
 -- the same rewritten code, plan and record
 pub record IsSame (old new : Tracer) : Type 0 where

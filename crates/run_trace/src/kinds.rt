@@ -1,14 +1,17 @@
 //! When the words of rewritten code commit, looked up once for each.
 
-ghost use Rattle.std.specs.Prelude.{◌≡◌, IfOk};
+ghost use Rattle.std.specs.Prelude.{◌≡◌, IfOk, map};
 ghost use Rattle.rv32_program.specs.Program.{Program};
 ghost use Rattle.templates.specs.Code.{HasCode};
 ghost use Rattle.templates.specs.Commits.{commit_at};
 ghost use Rattle.node_model.specs.jump_map.Maps.{old_of};
 ghost use Rattle.run_trace.specs.Kinds.{AreKindsOf, kind_in};
+ghost use Rattle.replay.specs.node_machine.node_words.VisitTables.{AreVisitsIn, visits_of};
+ghost use Rattle.run_trace.specs.Visited.{asks, commits_visited, first_visits, may_commit};
 
 use crate::entries::Entries;
 use node_model::jump_map::{IMAGE_BASE, Image};
+use replay::node_machine::Visits;
 use std::alloc::{AllocError, Global};
 use templates::{Code, CommitKind, Plan};
 
@@ -38,6 +41,29 @@ impl CommitKinds {
         Ok(CommitKinds { kinds })
     }
 
+    /// The visits of all words of an image, of which none was executed yet.
+    pub(crate) fn no_visits(&self, alloc: Global, image: &Image) -> Result<Visits, AllocError>
+        ensures value { IfOk result
+            (λ visits. visits_of visits ≡ map first_visits self.now.kinds.items) }
+        ensures micros { IfOk result (AreVisitsIn image.now) }
+    {
+        let mut visits = Visits::with_room(alloc, self.kinds.len())?;
+        for kind in &self.kinds {
+            visits.push(image, asks(*kind))?;
+        }
+        Ok(visits)
+    }
+
+    /// Whether the word of a number commits each time that it counts.
+    pub(crate) fn commits_visited(&self, number: usize) -> bool
+        ensures value { result ≡ commits_visited self.now number }
+    {
+        match self.kinds.get(number) {
+            Some(kind) => may_commit(*kind),
+            None => false,
+        }
+    }
+
     /// When the word at an address commits, if one stands there.
     #[inline(always)]
     pub(crate) fn at(&self, new: u32) -> CommitKind
@@ -50,5 +76,25 @@ impl CommitKinds {
             Some(kind) => *kind,
             None => CommitKind::Never,
         }
+    }
+}
+
+/// Whether it depends on what a word of a kind reads whether it commits.
+fn asks(kind: CommitKind) -> bool
+    ensures { result ≡ asks kind }
+{
+    match kind {
+        CommitKind::IfNotFlag => true,
+        CommitKind::Never | CommitKind::Always | CommitKind::IfNoWait => false,
+    }
+}
+
+/// Whether a word of a kind commits, where it prints nothing, sends nothing and counts.
+fn may_commit(kind: CommitKind) -> bool
+    ensures { result ≡ may_commit kind }
+{
+    match kind {
+        CommitKind::Never => false,
+        CommitKind::Always | CommitKind::IfNotFlag | CommitKind::IfNoWait => true,
     }
 }

@@ -9,8 +9,9 @@ use crate::takes::{sight_of, take_traced};
 use crate::traced::{Traced, What};
 use crate::words::{accessed_at, before_word, commits, commits_silent, place_of, word_traced};
 use block_layout::Block;
+use node_model::jump_map::Image;
 use replay::dsm_core::{Core, Event, Incoming, Work};
-use replay::node_machine::Touch;
+use replay::node_machine::{Touch, Visits};
 use replay::run_record::Record;
 use replay::{ReplayRefused, Replayer, WordsAhead};
 use std::alloc::{AllocError, Global};
@@ -38,23 +39,28 @@ enum StretchEnd {
 
 impl<'a> Tracer<'a> {
     ghost use Rattle.std.specs.Prelude.{◌≡◌, ◌⊎◌, ◌<◌, ◌≤◌, ℕ, List, [], IfOk, OnOk, IsErrOf};
-    ghost use Rattle.std.specs.Prelude.{◌≢◌, ◌++◌, IfSome, option_to_list};
+    ghost use Rattle.std.specs.Prelude.{◌≢◌, ◌++◌, All, IfSome, option_to_list};
     ghost use Rattle.std.specs.Option.{option_map};
     ghost use Rattle.templates.specs.Code.{HasCode};
     ghost use Rattle.node_model.specs.Core.{Exec, Take};
     ghost use Rattle.replay.specs.rewriting_law.Bounds.{RunsRewritten};
     ghost use Rattle.replay.specs.node_machine.Touch.{IsTouch};
+    ghost use Rattle.replay.specs.node_machine.node_words.Visits.{AreCounted};
+    ghost use Rattle.replay.specs.node_machine.node_words.VisitTables.{visits_of};
     ghost use Rattle.replay.specs.dsm_core.CoreParts.{work_in, core_of};
+    ghost use Rattle.replay.specs.dsm_core.CoreWords.{HasPassedWords};
     ghost use Rattle.replay.specs.run_record.Record.{IsRecord};
     ghost use Rattle.replay.specs.Told.{Told};
     ghost use Rattle.replay.specs.Refusals.{IsFirstBroken, IsUnfinished};
     ghost use Rattle.replay.specs.Way.{HasMade, IsRunning, IsNextOf, IsStretch, core_in};
-    ghost use Rattle.replay.specs.Way.{IsWordLess};
+    ghost use Rattle.replay.specs.Way.{IsLessBy, IsWordLess};
     ghost use Rattle.replay.specs.declared.refused.ReplayRule.{ReplayRule as Rules};
     ghost use Rattle.replay.specs.declared.refused.ReplayRefused.TheVariants.{Broken};
     ghost use Rattle.run_trace.specs.Traced.{Traced as OfEvent};
     ghost use Rattle.run_trace.specs.Tracing.{HasTraced, HasGoneOn, HasTracedOne, IsSame};
     ghost use Rattle.run_trace.specs.Tracing.{IsFewer, HasKinds, HasTracedIfSilent};
+    ghost use Rattle.run_trace.specs.Tracing.{AreVisitsOf, HasTracedWords, kinds_traced};
+    ghost use Rattle.run_trace.specs.Visited.{CommitByNumber, commits_visited};
     ghost use Rattle.run_trace.specs.Tracing.{events_to_trace};
     ghost use Rattle.run_trace.specs.Tracing.{work_traced, plan_traced, record_traced, replayer_in};
     ghost use Rattle.run_trace.specs.Passing.{HasPassedOn, passed_of, word_ended};
@@ -147,6 +153,48 @@ impl<'a> Tracer<'a> {
         } else {
             None
         }
+    }
+
+    /// The visits of all words of the run, of which none was executed yet. The image is the run's.
+    pub fn no_visits(&self, alloc: Global, image: &Image) -> Result<Visits, AllocError>
+        requires image { image.now ≡ (work_traced self.now).image }
+        ensures visits { IfOk result (AreVisitsOf self.now) }
+        ensures none { IfOk result (λ visits. All (λ v. v.times ≡ 0) (visits_of visits)) }
+    {
+        self.kinds.no_visits(alloc, image)
+    }
+
+    /// Whether the word of a number commits a step of the original each time that it counts.
+    pub fn commits_visited(&self, number: usize) -> bool
+        ensures value { result ≡ commits_visited (kinds_traced self.now) number }
+    {
+        self.kinds.commits_visited(number)
+    }
+
+    /// Makes words of a stretch one by one, as long as all that they do is to compute or to access
+    /// memory, and they count among the visits. It gives how many.
+    pub fn make_silent_words(&mut self, stretch: &mut WordsAhead, visits: &mut Visits) -> u64
+        requires traced { (seen : List OfEvent) × HasTraced self.old seen }
+        requires stretch { IsStretch (replayer_in self.old) stretch.old }
+        requires visits { AreVisitsOf self.old visits.old }
+        ensures made { (seen : List OfEvent) (h : HasTraced self.old seen)
+            → HasTracedWords self.new seen h.before stretch.old.node result }
+        ensures passed { HasPassedWords (work_traced self.old) stretch.old.node result
+            (core_of (core_in (replayer_in self.old))) (core_of (core_in (replayer_in self.new))) }
+        ensures counted { AreCounted (work_traced self.old) result
+            ((core_of (core_in (replayer_in self.old))).nodes stretch.old.node)
+            (visits_of visits.old) (visits_of visits.new) }
+        ensures commits { CommitByNumber (work_traced self.old) (plan_traced self.old)
+            (kinds_traced self.old) stretch.old.node result
+            (core_of (core_in (replayer_in self.old))) }
+        ensures visits { AreVisitsOf self.new visits.new }
+        ensures stretch { IsStretch (replayer_in self.new) stretch.new }
+        ensures left { IsLessBy result stretch.old stretch.new }
+        ensures fewer { 0 < result → events_to_trace self.new < events_to_trace self.old }
+        ensures most { events_to_trace self.new ≤ events_to_trace self.old }
+        ensures same { IsSame self.old self.new }
+    {
+        self.replayer.make_silent_words(stretch, visits)
     }
 
     /// Makes words that only compute or access memory, up to the first whose access ends the pass,

@@ -4,7 +4,7 @@ use Rattle.std.proofs.lemmas.Result.{err_from_is_err_and}
 use Rattle.run_trace.specs.replay.dsm_core.CoreParts.{work_in}
 use Rattle.run_trace.specs.replay.declared.refused.ReplayRefused.TheVariants.{Broken}
 use Rattle.run_costs.specs.Counting.{HasGoneOn}
-use Rattle.run_costs.proofs.Whole.{on_way, on_further, all_counted, refused_by}
+use Rattle.run_costs.proofs.Whole.{on_way, all_counted, refused_by}
 use Rattle.run_costs.proofs.costs_of_record.Goals as goal
 
 pub loop-counting-init : goal.loop-counting-init
@@ -27,6 +27,16 @@ next-requires c =
     let on = c.in_ok-count_silent.ensures.counted c.args.symbols.now way.seen way.counted in
     record { counted = (c.args.symbols.now, way.seen ++ on.0, on.1) }
 
+pub costs-requires : goal.costs-requires
+costs-requires c =
+    let symbols = c.args.symbols.now in
+    let before = c.loop-counting.invariant in
+    let silent = c.in_ok-count_silent.ensures.counted symbols before.seen before.counted in
+    let seen = before.seen ++ silent.0 in
+    let on = subst (HasGoneOn symbols c.next.new.self seen) c.if-not-branch.true
+    (c.in_ok-next.ensures.next symbols seen silent.1) in
+    record { counted = (symbols, seen, on.counted) }
+
 pub loop-counting-preserved : goal.loop-counting-preserved
 loop-counting-preserved c =
     let symbols = c.args.symbols.now in
@@ -34,7 +44,7 @@ loop-counting-preserved c =
     let before = c.loop-counting.invariant in
     let silent = c.in_ok-count_silent.ensures in
     let e = c.in_ok-next.ensures in
-    let way = on_further symbols work c.args.plan.now c.args.rec.now c.loop-counting.counting c.count_silent.new.self
+    let way = on_way symbols work c.args.plan.now c.args.rec.now c.loop-counting.counting c.count_silent.new.self
     before silent.same (silent.counted symbols before.seen before.counted) in
     on_way symbols work c.args.plan.now c.args.rec.now c.count_silent.new.self c.next.new.self way e.same
     (subst (HasGoneOn symbols c.next.new.self way.seen) c.if-not-branch.false
@@ -48,7 +58,7 @@ returns-then-not-branch-clause-costs c =
     let silent = c.in_ok-count_silent.ensures in
     let e = c.in_ok-next.ensures in
     let d = c.next.new.self in
-    let way = on_further symbols work c.args.plan.now c.args.rec.now c.loop-counting.counting c.count_silent.new.self
+    let way = on_way symbols work c.args.plan.now c.args.rec.now c.loop-counting.counting c.count_silent.new.self
     before silent.same (silent.counted symbols before.seen before.counted) in
     let on = subst (HasGoneOn symbols d way.seen) c.if-not-branch.true (e.next symbols way.seen way.counted) in
     all_counted symbols work c.args.plan.now c.args.rec.now c.count_silent.new.self d

@@ -15,15 +15,15 @@ pub returns-in_default-clause-counted : goal.returns-in_default-clause-counted
 returns-in_default-clause-counted c = λ symbols seen h.
     let s = c.args.self.now in
     let t = c.make_silent_word.new.self in
-    let d : Counting = record { tracer = t; labels = s.labels; tally = s.tally } in
-    still_counted symbols s d seen h c.make_silent_word.ensures.same refl
+    let d : Counting = record { tracer = t; labels = s.labels; visits = s.visits; tally = s.tally } in
+    still_counted symbols s d seen h c.make_silent_word.ensures.same refl refl
     (subst (HasTracedIfSilent s.tracer t seen c.args.stretch.now.node) c.in_default.is
     (c.make_silent_word.ensures.made seen h.traced)) refl
 
 pub returns-clause-counted : goal.returns-clause-counted
 returns-clause-counted c = λ symbols seen h.
     let s = c.args.self.now in
-    let d : Counting = record { tracer = c.make_silent_word.new.self; labels = s.labels; tally = c.add.new.self } in
-    silent_counted symbols s d seen h c.make_silent_word.ensures.same refl c.args.stretch.now.node
+    let d : Counting = record { tracer = c.make_silent_word.new.self; labels = s.labels; visits = s.visits; tally = c.add.new.self } in
+    silent_counted symbols s d seen h c.make_silent_word.ensures.same refl refl c.args.stretch.now.node
     c.next_label-label.result c.in-Some.commits (c.in-Some.ensures.made seen h.traced) c.requires.stretch.may
     (c.next_label-label.ensures.label symbols seen h) c.in_ok-add.ensures

@@ -1,16 +1,20 @@
--- One word of a stretch after another.
+-- Words of a stretch by their numbers, and one word after another behind them.
 use Rattle.std.proofs.Common.{◌++◌, arith}
-use Rattle.run_costs.proofs.Counted.{none_more, joined, same_self, same_on}
+use Rattle.run_costs.proofs.Counted.{joined, same_on}
 use Rattle.run_costs.proofs.counting.Counting.count_stretch.Goals as goal
 
 pub loop-stretch-init : goal.loop-stretch-init
-loop-stretch-init c = record {
-  on = λ symbols seen h. none_more symbols c.args.self.now seen h;
-  stretch = c.requires.stretch;
-  few = omega arith;
-  fewer = omega arith;
-  same = same_self c.args.self.now.tracer;
-}
+loop-stretch-init c =
+    let e = c.count_words.ensures in
+    let some = c.requires.some in
+    let fewer = e.fewer in
+    record {
+      on = λ symbols seen h. e.counted symbols seen h;
+      stretch = e.stretch;
+      fewer = λ none. fewer (omega (arith, some, none));
+      most = e.most;
+      same = e.same;
+    }
 
 pub count_silent_word-requires-clause-counted : goal.count_silent_word-requires-clause-counted
 count_silent_word-requires-clause-counted c =
@@ -28,21 +32,33 @@ returns-then-not-branch-clause-same c =
     same_on c.args.self.now.tracer c.loop-stretch.self.tracer c.count_silent_word.new.self.tracer
     c.loop-stretch.invariant.same c.in_ok-count_silent_word.ensures.same
 
+pub count_words-requires-in-loop-stretch-clause-counted : goal.count_words-requires-in-loop-stretch-clause-counted
+count_words-requires-in-loop-stretch-clause-counted c =
+    let symbols = c.requires.counted.0 in
+    let seen = c.requires.counted.1 in
+    let on = joined symbols c.loop-stretch.self c.count_silent_word.new.self seen
+    (c.loop-stretch.invariant.on symbols seen c.requires.counted.2) (c.in_ok-count_silent_word.ensures.counted symbols) in
+    (symbols, seen ++ on.0, on.1)
+
 pub loop-stretch-preserved : goal.loop-stretch-preserved
 loop-stretch-preserved c =
+    let t = c.args.self.now.tracer in
     let s = c.loop-stretch.self in
-    let d = c.count_silent_word.new.self in
+    let m = c.count_silent_word.new.self in
+    let d = c.count_words-in-loop-stretch.new.self in
+    let i = c.loop-stretch.invariant in
     let e = c.in_ok-count_silent_word.ensures in
-    let few = c.loop-stretch.invariant.few in
-    let fewer = c.loop-stretch.invariant.fewer in
-    let left = (e.less c.if-not-branch.false).words in
+    let w = c.count_words-in-loop-stretch.ensures in
+    let before = i.most in
     let made = e.fewer c.if-not-branch.false in
+    let behind = w.most in
     record {
-      on = λ symbols seen h. joined symbols s d seen (c.loop-stretch.invariant.on symbols seen h) (e.counted symbols);
-      stretch = e.stretch c.if-not-branch.false;
-      few = omega (arith, few, left);
-      fewer = omega (arith, fewer, left, made);
-      same = same_on c.args.self.now.tracer s.tracer d.tracer c.loop-stretch.invariant.same e.same;
+      on = λ symbols seen h. joined symbols m d seen
+          (joined symbols s m seen (i.on symbols seen h) (e.counted symbols)) (w.counted symbols);
+      stretch = w.stretch;
+      fewer = λ none. omega (arith, before, made, behind);
+      most = omega (arith, before, made, behind);
+      same = same_on t m.tracer d.tracer (same_on t s.tracer m.tracer i.same e.same) w.same;
     }
 
 pub returns-clause-counted : goal.returns-clause-counted

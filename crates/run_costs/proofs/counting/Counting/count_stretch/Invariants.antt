@@ -1,4 +1,4 @@
-use Rattle.std.proofs.Common.{◌≤◌, ◌+◌, List}
+use Rattle.std.proofs.Common.{◌≡◌, ◌≤◌, ◌<◌, List}
 use Rattle.check_costs.specs.elf_symbols.Symbols.{Symbol}
 use Rattle.run_trace.specs.replay.Way.{IsStretch}
 use Rattle.run_trace.specs.Traced.{Traced}
@@ -11,9 +11,8 @@ invariant-loop-stretch l = record {
   on : (symbols : List Symbol) (seen : List Traced) → HasCounted symbols l.fn.self seen
       → HasCountedMore symbols l.self seen;
   stretch : IsStretch (replayer_in l.self.tracer) l.stretch;
-  few : l.stretch.words ≤ l.initial.stretch.words;
-  fewer : events_to_trace l.self.tracer + l.initial.stretch.words
-      ≤ events_to_trace l.fn.self.tracer + l.stretch.words;
+  fewer : l.stretch.words ≡ 0 → events_to_trace l.self.tracer < events_to_trace l.fn.self.tracer;
+  most : events_to_trace l.self.tracer ≤ events_to_trace l.fn.self.tracer;
   same : IsSameRun l.fn.self l.self;
 }
 

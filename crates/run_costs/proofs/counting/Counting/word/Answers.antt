@@ -22,8 +22,9 @@ returns-clause-counted c = λ symbols seen h.
     let d : Counting = record {
       tracer = c.word.new.self;
       labels = c.args.self.now.labels;
+      visits = c.args.self.now.visits;
       tally = c.add.new.self;
     } in
-    word_counted symbols c.args.self.now d seen h c.in_ok-traced.ensures.same refl c.args.node c.in_ok-traced.traced
+    word_counted symbols c.args.self.now d seen h c.in_ok-traced.ensures.same refl refl c.args.node c.in_ok-traced.traced
     c.next_label-label.result c.commits.result (c.in_ok-traced.ensures.made h.traced.before h.traced.made)
     (c.next_label-label.ensures.label symbols seen h) c.commits.ensures c.in_ok-add.ensures
