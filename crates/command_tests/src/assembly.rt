@@ -2,7 +2,9 @@
 
 use crate::calls::{call, try_held};
 use crate::watch::CountingGate;
+use std::sync::Wait;
 use std::test::Fail;
+use std::thread::Threads;
 use test_calls::calls::{Expected, sure};
 use test_calls::files::{executable, text_of};
 
@@ -25,7 +27,7 @@ const HI_WORDS: &str = ".word 0x000205b7; .word 0x00100513; .word 0x00300613; .w
     .word 0x00000073; .word 0x00000513; .word 0x05d00893; .word 0x00000073";
 
 /// Texts, and the number of the rule that each breaks and the line that breaks it.
-const REFUSED: [(&str, &str); 8] = [
+static REFUSED: [(&str, &str); 8] = [
     (".segment rx 0x10000\naddi x1, x0, 2048", "61 at line 2"),
     // a shift by a number of either sign that doesn't fit
     (".segment rx 0x10000\nslli x1, x1, -1", "61 at line 2"),
@@ -54,18 +56,26 @@ fn assembles_a_program(rt: HostRuntime) -> Result<(), Fail> {
     Err(Fail::from("another executable"))
 }
 
+/// Fails the test where a text isn't refused for this.
+fn try_refused(
+    rt: &(impl Threads + Wait + Sync + AllocGlobal),
+    text: &str,
+    why: &str,
+) -> Result<(), Fail> {
+    let err = text_of(rt.alloc(), &["shasta: text refused ", why, "\n"])?;
+    let answer = Expected {
+        status: 8,
+        out: &[],
+        err: &err,
+    };
+    let held = [("TEXT", text.as_bytes()), ("OUT", b"as it was".as_slice())];
+    try_held(rt, &held, &["asm TEXT OUT"], &answer)
+}
+
 #[test]
 fn refuses_assembly_texts(rt: HostRuntime) -> Result<(), Fail> {
-    let alloc = rt.alloc();
-    for (text, why) in REFUSED {
-        let err = text_of(alloc, &["shasta: text refused ", why, "\n"])?;
-        let answer = Expected {
-            status: 8,
-            out: &[],
-            err: &err,
-        };
-        let held = [("TEXT", text.as_bytes()), ("OUT", b"as it was".as_slice())];
-        try_held(&rt, &held, &["asm TEXT OUT"], &answer)?;
+    for &(text, why) in &REFUSED {
+        try_refused(&rt, text, why)?;
     }
     Ok(())
 }

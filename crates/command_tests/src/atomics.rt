@@ -1,12 +1,15 @@
 //! LR, SC and the AMOs on one memory and rewritten, and processors that share a counter.
 
 use crate::cases::{Case, Input, try_cases, try_codes, try_program};
+use std::alloc::{AllocError, Global};
+use std::sync::Wait;
 use std::test::Fail;
+use std::thread::Threads;
 use test_calls::calls::NODE;
 use test_calls::files::text_of;
 
 /// Programs whose data's memory has 64 bytes of zeros, and how each ends.
-const RESERVATIONS: [(&str, &str); 15] = [
+static RESERVATIONS: [(&str, &str); 15] = [
     // the first SC stores and leaves no reservation
     (
         "lui x5, 0x20; lr.w x6, (x5); sc.w x7, x6, (x5); sc.w x10, x6, (x5); slli x7, x7, 4;
@@ -90,7 +93,7 @@ ecall
 ";
 
 /// An AMO on the word 0x80000001, the register's value, and the word that it leaves.
-const UPDATES: [(&str, &str, &str); 10] = [
+static UPDATES: [(&str, &str, &str); 10] = [
     ("amoswap.w x7, x6, (x11)", "00000003", "00000003"),
     ("amoadd.w x7, x6, (x11)", "80000003", "00000004"),
     ("amoxor.w x7, x6, (x11)", "00000003", "80000002"),
@@ -105,19 +108,32 @@ const UPDATES: [(&str, &str, &str); 10] = [
     ("amominu.w x7, x6, (x11)", "80000001", "80000001"),
 ];
 
+/// The words of the data: the word, one between, the register's value, and the word that is left.
+fn data_of(alloc: Global, operand: &str, new: &str) -> Result<String, AllocError> {
+    let words = [
+        ".word 0x80000001; .word 0x00000000; .word 0x",
+        operand,
+        "; .word 0x",
+        new,
+    ];
+    text_of(alloc, &words)
+}
+
+/// Fails the test where an AMO leaves another word, or gives another one.
+fn try_update(
+    rt: &(impl Threads + Wait + Sync + AllocGlobal),
+    amo: &str,
+    data: &str,
+) -> Result<(), Fail> {
+    let code = text_of(rt.alloc(), &[BEFORE, "; ", amo, "; ", BEHIND])?;
+    try_program(rt, &code, data, "exit 0")
+}
+
 #[test]
 fn updates_a_word_and_gives_the_old_one(rt: HostRuntime) -> Result<(), Fail> {
-    let alloc = rt.alloc();
-    for (amo, operand, new) in UPDATES {
-        let code = text_of(alloc, &[BEFORE, "; ", amo, "; ", BEHIND])?;
-        let words = [
-            ".word 0x80000001; .word 0x00000000; .word 0x",
-            operand,
-            "; .word 0x",
-            new,
-        ];
-        let data = text_of(alloc, &words)?;
-        try_program(&rt, &code, &data, "exit 0")?;
+    for &(amo, operand, new) in &UPDATES {
+        let data = data_of(rt.alloc(), operand, new)?;
+        try_update(&rt, amo, &data)?;
     }
     Ok(())
 }
@@ -154,7 +170,7 @@ ecall
 pub const COUNTED: &str = "output 0\n\nprocessor 0 exit 125\nprocessor 1 exit 0\n";
 
 /// Two processors that count, and one.
-const CASES: [Case; 2] = [
+static CASES: [Case; 2] = [
     Case {
         input: Input::Program(COUNTER, b"", 128),
         text: "",

@@ -58,7 +58,7 @@ node 0 read 0 exclusive 0 upgrade 0 false 0 invalidations 0 fallbacks 0 messages
 node 1 read 2 exclusive 0 upgrade 0 false 0 invalidations 0 fallbacks 0 messages 4
 ";
 
-const CASES: [Case; 6] = [
+static CASES: [Case; 6] = [
     Case {
         input: Input::Program(JUMPS_INTO, FIVE_SIX, 64),
         text: "",

@@ -2,6 +2,7 @@
 
 use crate::calls::{rewritten, try_held};
 use crate::cases::{Case, Input, try_cases};
+use std::alloc::{AllocError, Global};
 use std::sync::Wait;
 use std::test::Fail;
 use std::thread::Threads;
@@ -44,7 +45,7 @@ fn try_code(
 /// its ten words, at 0x3028; the map behind eight bytes for each of nine places, at 0x3070. The
 /// types of the three program headers are at 52, 84 and 116; behind each are an offset, two
 /// addresses and two sizes.
-const CHANGES: [(usize, u8, &str); 14] = [
+static CHANGES: [(usize, u8, &str); 14] = [
     (0x3027, 0x80, "shasta: code refused 21 PlanRefused Code\n"),
     (0x2000, 0x80, "shasta: code refused 21 PlanRefused Code\n"),
     (0x3028, 0x80, "shasta: code refused 21 PlanRefused Plan\n"),
@@ -69,80 +70,76 @@ const CHANGES: [(usize, u8, &str); 14] = [
     (136, 0x20, "shasta: code refused 11 SegmentSizes header 2\n"),
 ];
 
+/// A file where bits of the byte at a place are changed.
+fn changed(alloc: Global, code: &[u8], place: usize, bits: u8) -> Result<Vec<u8>, AllocError> {
+    let mut file = code.to_vec(alloc)?;
+    if let Some(byte) = file.get_mut(place) {
+        *byte ^= bits;
+    }
+    Ok(file)
+}
+
+/// Fails the test where a file of code isn't refused with these words.
+fn try_refused(
+    rt: &(impl Threads + Wait + Sync + AllocGlobal),
+    file: &[u8],
+    code: &[u8],
+    err: &str,
+) -> Result<(), Fail> {
+    let answer = Expected {
+        status: 4,
+        out: &[],
+        err,
+    };
+    try_code(rt, file, code, "?", &answer)
+}
+
 #[test]
 fn tells_why_a_file_of_code_is_refused(rt: HostRuntime) -> Result<(), Fail> {
-    let alloc = rt.alloc();
-    let file = executable(alloc, HI, b"hi\n", 3)?;
+    let file = executable(rt.alloc(), HI, b"hi\n", 3)?;
     let code = rewritten(&rt, &file)?;
-    for (place, bits, err) in CHANGES {
-        let mut changed = code.as_slice().to_vec(alloc)?;
-        if let Some(byte) = changed.get_mut(place) {
-            *byte ^= bits;
-        }
-        let answer = Expected {
-            status: 4,
-            out: &[],
-            err,
-        };
-        try_code(&rt, &file, &changed, "?", &answer)?;
+    for &(place, bits, err) in &CHANGES {
+        try_refused(&rt, &file, &changed(rt.alloc(), &code, place, bits)?, err)?;
     }
     Ok(())
 }
 
+/// What is told where the executable is faulty, whatever else is.
+const NO_EXECUTABLE: &str = "shasta: executable refused 1 Short\n";
+
+/// What is told where the file of code has no bytes, and where it is the executable.
+const NO_CODE: &str = "shasta: code refused 1 Short\n";
+
+const OTHER_CODE: &str = "shasta: code refused 21 PlanRefused Plan\n";
+
+/// The answer where the layout alone is faulty.
+const NO_LAYOUT: Expected<'static> = Expected {
+    status: 6,
+    out: &[],
+    err: "shasta: layout refused 30 at line 1\n",
+};
+
+/// What the program prints where nothing is faulty.
+const PRINTED: Expected<'static> = Expected {
+    status: 0,
+    out: &["output 3\nhi\n\nprocessor 0 exit 0\n", NODE],
+    err: "",
+};
+
 #[test]
 fn judges_what_it_reads_in_order(rt: HostRuntime) -> Result<(), Fail> {
-    let alloc = rt.alloc();
-    let file = executable(alloc, HI, b"hi\n", 3)?;
+    let file = executable(rt.alloc(), HI, b"hi\n", 3)?;
     let code = rewritten(&rt, &file)?;
-    let out = "output 3\nhi\n\nprocessor 0 exit 0\n";
-    for (input, code, text, status, out, err) in [
-        (
-            b"".as_slice(),
-            b"".as_slice(),
-            "?",
-            4,
-            ["", ""],
-            "shasta: executable refused 1 Short\n",
-        ),
-        (
-            &file,
-            b"",
-            "?",
-            4,
-            ["", ""],
-            "shasta: code refused 1 Short\n",
-        ),
-        (
-            &file,
-            &file,
-            "?",
-            4,
-            ["", ""],
-            "shasta: code refused 21 PlanRefused Plan\n",
-        ),
-        (
-            &file,
-            &code,
-            "?",
-            6,
-            ["", ""],
-            "shasta: layout refused 30 at line 1\n",
-        ),
-        (&file, &code, "", 0, [out, NODE], ""),
-    ] {
-        let answer = Expected {
-            status,
-            out: &out,
-            err,
-        };
-        try_code(&rt, input, code, text, &answer)?;
-    }
-    Ok(())
+    try_refused(&rt, b"", b"", NO_EXECUTABLE)?;
+    try_refused(&rt, &file, b"", NO_CODE)?;
+    try_refused(&rt, &file, &file, OTHER_CODE)?;
+    try_code(&rt, &file, &code, "?", &NO_LAYOUT)?;
+    try_code(&rt, &file, &code, "", &PRINTED)
 }
 
 /// Of files that can't be read the first is told, before any is judged: the executable, its code,
 /// the layout, and the record.
-const READS: [Case; 3] = [
+static READS: [Case; 3] = [
     Case {
         input: Input::Bytes(b""),
         text: "",

@@ -28,11 +28,22 @@ fn far_program(rt: &(impl Threads + Wait + Sync + AllocGlobal)) -> Result<Vec<u8
 
 /// Bytes of the rewritten file: at 100 and 104 the sizes of the code, which has 900,008 words; and
 /// the jump's third word, at 0xa000000c, a far jump to word 900,004. The code begins at 0x63000.
-const BYTES: [(usize, [u8; 4]); 3] = [
+static BYTES: [(usize, [u8; 4]); 3] = [
     (100, [0xa0, 0xee, 0x36, 0x00]),
     (104, [0xa0, 0xee, 0x36, 0x00]),
     (0x6300c, [0x0b, 0xf2, 0xee, 0x36]),
 ];
+
+/// Fails the test where the rewritten file has other bytes.
+fn try_bytes(code: &[u8]) -> Result<(), Fail> {
+    for (offset, bytes) in &BYTES {
+        let behind = code.get(*offset..).unwrap_or(b"");
+        if !behind.starts_with(bytes) {
+            return Err(Fail::new(format_args!("other bytes at {offset}")));
+        }
+    }
+    Ok(())
+}
 
 #[test]
 fn jumps_far(rt: HostRuntime) -> Result<(), Fail> {
@@ -45,11 +56,5 @@ fn jumps_far(rt: HostRuntime) -> Result<(), Fail> {
     let code = rewritten(&rt, &file)?;
     let held = [("IN", file.as_slice()), ("OUT", &code)];
     try_held(&rt, &held, &["run IN", "run IN --code OUT"], &answer)?;
-    for (offset, bytes) in BYTES {
-        let behind = code.get(offset..).unwrap_or(b"");
-        if !behind.starts_with(&bytes) {
-            return Err(Fail::new(format_args!("other bytes at {offset}")));
-        }
-    }
-    Ok(())
+    try_bytes(&code)
 }

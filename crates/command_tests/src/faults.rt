@@ -7,7 +7,7 @@ use test_calls::calls::Expected;
 use test_calls::samples::USAGE;
 
 /// Each command that reads an executable, where its words, its file or its name are at fault.
-const CASES: [Case; 5] = [
+static CASES: [Case; 5] = [
     // words that ask for no command
     Case {
         input: Input::Bytes(b""),

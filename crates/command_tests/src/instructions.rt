@@ -11,7 +11,7 @@ fn executes_each_instruction(rt: HostRuntime) -> Result<(), Fail> {
 }
 
 /// Programs, and how each ends.
-const PROGRAMS: [(&str, &str); 36] = [
+static PROGRAMS: [(&str, &str); 36] = [
     // add wraps
     (
         "lui x5, 0x80000; addi x5, x5, -1; addi x6, x0, 1; add x7, x5, x6; srli x10, x7, 24;

@@ -37,7 +37,7 @@ ecall
 ";
 
 /// A layout of the program that stops, and why it is refused.
-const REFUSED: [(&str, &str); 5] = [
+static REFUSED: [(&str, &str); 5] = [
     (
         "# shared data\n0x20000 0x40 65 *\n",
         "shasta: layout refused 31 at line 2\n",
@@ -70,7 +70,7 @@ const ONE_FAILED: &str = "output 0\n\nprocessor 0 exit 1\nprocessor 1 exit 0\n";
 /// A program of two processors, the size of its memory, a layout, and how it ends.
 type TwoRow = (&'static str, u32, &'static str, u8, &'static [&'static str]);
 
-const ON_TWO: [TwoRow; 6] = [
+static ON_TWO: [TwoRow; 6] = [
     // the second node may be a home
     (STOP, 64, "0x20000 0x40 64 1", 1, &[BOTH_STOPPED]),
     // where both lines are one block, the store ends the reservation
@@ -83,7 +83,7 @@ const ON_TWO: [TwoRow; 6] = [
 ];
 
 /// Layouts of no line and of one, what is told before a layout, and a home that is no node.
-const CASES: [Case; 7] = [
+static CASES: [Case; 7] = [
     Case {
         input: Input::Program(STOP, b"", 64),
         text: "",
@@ -177,6 +177,14 @@ fn try_refused(
     try_case(rt, &case)
 }
 
+/// Makes the calls with each layout that is refused.
+fn try_each_refused(rt: &(impl Threads + Wait + Sync + AllocGlobal)) -> Result<(), Fail> {
+    for &(text, err) in &REFUSED {
+        try_refused(rt, text, err)?;
+    }
+    Ok(())
+}
+
 /// Makes the calls of a program of two processors.
 fn try_two(rt: &(impl Threads + Wait + Sync + AllocGlobal), row: &TwoRow) -> Result<(), Fail> {
     let (code, size, text, status, out) = *row;
@@ -197,9 +205,7 @@ fn try_two(rt: &(impl Threads + Wait + Sync + AllocGlobal), row: &TwoRow) -> Res
 #[test]
 fn judges_the_layout(rt: HostRuntime) -> Result<(), Fail> {
     try_cases(&rt, &CASES)?;
-    for (text, err) in REFUSED {
-        try_refused(&rt, text, err)?;
-    }
+    try_each_refused(&rt)?;
     for row in &ON_TWO {
         try_two(&rt, row)?;
     }

@@ -4,7 +4,9 @@
 use crate::calls::try_held;
 use crate::refusals::try_refused;
 use std::alloc::Global;
+use std::sync::Wait;
 use std::test::Fail;
+use std::thread::Threads;
 use test_calls::calls::Expected;
 use test_calls::files::{executable, push_code, push_words, text_of};
 use test_calls::samples::HI;
@@ -14,7 +16,7 @@ const LONGEST: usize = 33_554_432;
 
 /// The beginning and the last line of a layout, and what is told of it where there are so many
 /// empty lines between both that it is as long as a file that is read may be.
-const LAST_LINES: [(&str, &str, &str); 6] = [
+static LAST_LINES: [(&str, &str, &str); 6] = [
     ("", "?", "30 at line 33554432"),
     ("", "0x0 0x0 1 0", "31 at line 33554422"),
     ("", "0x0 0x0 64 0", "32 at line 33554421"),
@@ -36,20 +38,33 @@ fn text_of_length(alloc: Global, len: usize, begin: &str, last: &str) -> Result<
     Ok(text)
 }
 
+/// Fails the test where the program isn't refused for this layout, by this rule and line.
+fn try_layout(
+    rt: &(impl Threads + Wait + Sync + AllocGlobal),
+    file: &[u8],
+    text: &[u8],
+    refusal: &str,
+) -> Result<(), Fail> {
+    let err = text_of(rt.alloc(), &["shasta: layout refused ", refusal, "\n"])?;
+    let answer = Expected {
+        status: 6,
+        out: &[],
+        err: &err,
+    };
+    try_held(
+        rt,
+        &[("IN", file), ("L", text)],
+        &["one IN --layout L"],
+        &answer,
+    )
+}
+
 #[test]
 fn names_the_last_line(rt: HostRuntime) -> Result<(), Fail> {
-    let alloc = rt.alloc();
-    let file = executable(alloc, HI, b"hi\n", 3)?;
-    for (begin, last, refusal) in LAST_LINES {
-        let text = text_of_length(alloc, LONGEST, begin, last)?;
-        let err = text_of(alloc, &["shasta: layout refused ", refusal, "\n"])?;
-        let answer = Expected {
-            status: 6,
-            out: &[],
-            err: &err,
-        };
-        let held = [("IN", file.as_slice()), ("L", text.as_slice())];
-        try_held(&rt, &held, &["one IN --layout L"], &answer)?;
+    let file = executable(rt.alloc(), HI, b"hi\n", 3)?;
+    for &(begin, last, refusal) in &LAST_LINES {
+        let text = text_of_length(rt.alloc(), LONGEST, begin, last)?;
+        try_layout(&rt, &file, &text, refusal)?;
     }
     Ok(())
 }
@@ -81,17 +96,22 @@ const EMPTY_HEADER: &str =
 
 const EXITS: &str = "addi x10, x0, 0; addi x17, x0, 93; ecall";
 
-#[test]
-fn counts_the_most_segments(rt: HostRuntime) -> Result<(), Fail> {
-    let alloc = rt.alloc();
+/// Appends the program headers of 65,534 empty segments.
+fn push_empty_headers(alloc: Global, file: &mut Vec<u8>) -> Result<(), Fail> {
     let mut empty = Vec::new(alloc);
     push_words(&mut empty, EMPTY_HEADER)?;
-    let mut file = Vec::new(alloc);
-    push_words(&mut file, FILE_HEADER)?;
-    push_words(&mut file, CODE_HEADER)?;
     for _ in 1..65535 {
         file.extend_from_slice(&empty)?;
     }
-    push_code(alloc, &mut file, EXITS)?;
+    Ok(())
+}
+
+#[test]
+fn counts_the_most_segments(rt: HostRuntime) -> Result<(), Fail> {
+    let mut file = Vec::new(rt.alloc());
+    push_words(&mut file, FILE_HEADER)?;
+    push_words(&mut file, CODE_HEADER)?;
+    push_empty_headers(rt.alloc(), &mut file)?;
+    push_code(rt.alloc(), &mut file, EXITS)?;
     try_refused(&rt, &file, "list IN", "22 TooManySegments 65535 segments")
 }

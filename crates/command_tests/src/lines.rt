@@ -11,7 +11,7 @@ use test_calls::calls::words_of;
 type Asked = Option<(u8, u32, u64)>;
 
 /// Lines of `run` and `rewrite`.
-const RUNS: [(&str, Asked); 51] = [
+static RUNS: [(&str, Asked); 51] = [
     ("rewrite a b", Some((0, 0, 0))),
     ("rewrite a", None),
     ("rewrite a b c", None),
@@ -66,7 +66,7 @@ const RUNS: [(&str, Asked); 51] = [
 ];
 
 /// Lines of the other commands.
-const OTHERS: [(&str, Asked); 69] = [
+static OTHERS: [(&str, Asked); 69] = [
     ("list a", Some((0, 0, 0))),
     ("one a", Some((1, 0, 100_000_000))),
     ("one a --nodes 2 --order 0 --budget 5", Some((2, 0, 5))),

@@ -4,7 +4,7 @@ use crate::cases::{Case, Input, try_cases};
 use std::test::Fail;
 use test_calls::samples::{READ, READS, STAYED, STAYS, WAITED, WAITS};
 
-const CASES: [Case; 3] = [
+static CASES: [Case; 3] = [
     // four messages under every order and every loss
     Case {
         input: Input::Program(READS, b"\x07\x00\x00\x00", 64),

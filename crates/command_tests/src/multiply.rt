@@ -11,7 +11,7 @@ fn multiplies_and_divides(rt: HostRuntime) -> Result<(), Fail> {
 }
 
 /// Programs, the words of their data, and how each ends.
-const PROGRAMS: [(&str, &str, &str); 13] = [
+static PROGRAMS: [(&str, &str, &str); 13] = [
     // -2^31 / -1 is -2^31, with remainder 0
     (
         "lui x5, 0x80000; addi x6, x0, -1; div x7, x5, x6; rem x28, x5, x6; srli x7, x7, 28;

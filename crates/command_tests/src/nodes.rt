@@ -5,7 +5,7 @@ use std::test::Fail;
 use test_calls::samples::{READ, READS, STAYED, STAYS, WAITED, WAITS};
 
 /// Programs whose data is zeros.
-const CASES: [Case; 5] = [
+static CASES: [Case; 5] = [
     Case {
         input: Input::Program(READS, b"", 64),
         text: "",

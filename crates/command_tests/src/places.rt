@@ -12,7 +12,7 @@ use test_calls::samples::HI;
 
 /// Rules that the file of a program which writes breaks: 8195 bytes, with two program headers, 32
 /// bytes of code at 0x1000 and three of data at 0x2000.
-const SMALL: [RefusalRow; 15] = [
+static SMALL: [RefusalRow; 15] = [
     RefusalRow {
         len: 0,
         bytes: &[],
@@ -99,7 +99,7 @@ const SMALL: [RefusalRow; 15] = [
 
 /// Rules that a file with 999 program headers breaks, at the first place and at the last. The last
 /// headers begin at 0x7cd4 and 0x7cf4.
-const PLACES: [RefusalRow; 20] = [
+static PLACES: [RefusalRow; 20] = [
     RefusalRow {
         len: WHOLE,
         bytes: &[(44, 0xe7), (45, 0x3), (52, 0x3)],
@@ -264,7 +264,7 @@ const PLACES: [RefusalRow; 20] = [
 const MOST: usize = 2097172;
 
 /// Rules that the last of 65,535 program headers breaks.
-const LAST: [RefusalRow; 3] = [
+static LAST: [RefusalRow; 3] = [
     RefusalRow {
         len: WHOLE,
         bytes: &[(44, 0xff), (45, 0xff), (0x1ffff4, 0x3)],
@@ -296,7 +296,7 @@ fn names_the_first_and_the_last_place(rt: HostRuntime) -> Result<(), Fail> {
 const NAMED: &str = "0x20000 0x40 64 0\n";
 
 /// Lines that break a rule behind that one, and its number.
-const FAULTY: [(&str, &str); 6] = [
+static FAULTY: [(&str, &str); 6] = [
     ("0x20040 0x40 64", "30"),
     ("0x20040 0x40 96 0", "31"),
     ("0x20040 0xffffffff 64 0", "32"),
@@ -307,7 +307,7 @@ const FAULTY: [(&str, &str); 6] = [
 
 /// Layouts of one shared line: one that breaks a rule, at its first place, and lines that break
 /// two.
-const LAYOUTS: [(&str, &str); 11] = [
+static LAYOUTS: [(&str, &str); 11] = [
     ("?", "30 at line 1"),
     ("0x20000 0x40 96 0", "31 at line 1"),
     ("0x20000 0xffffffff 64 0", "32 at line 1"),
@@ -338,23 +338,50 @@ fn try_layout(
     try_held(rt, &[("IN", file), ("L", text.as_bytes())], &calls, &answer)
 }
 
+/// Fails the test where the program isn't refused for each layout of one shared line.
+fn try_layouts(rt: &(impl Threads + Wait + Sync + AllocGlobal), file: &[u8]) -> Result<(), Fail> {
+    for &(text, refusal) in &LAYOUTS {
+        try_layout(rt, file, text, refusal)?;
+    }
+    Ok(())
+}
+
+/// Fails the test where the program isn't refused for a line that stands last, behind lines that
+/// name nothing.
+fn try_last(
+    rt: &(impl Threads + Wait + Sync + AllocGlobal),
+    file: &[u8],
+    line: &str,
+    rule: &str,
+) -> Result<(), Fail> {
+    let text = text_of(rt.alloc(), &[NAMED, "#\n\n  \n", line])?;
+    let refusal = text_of(rt.alloc(), &[rule, " at line 5"])?;
+    try_layout(rt, file, &text, &refusal)
+}
+
+/// Fails the test where the program isn't refused for a line before each other one.
+fn try_first(
+    rt: &(impl Threads + Wait + Sync + AllocGlobal),
+    file: &[u8],
+    line: &str,
+    rule: &str,
+) -> Result<(), Fail> {
+    let refusal = text_of(rt.alloc(), &[rule, " at line 2"])?;
+    for (other, _) in &FAULTY {
+        let text = text_of(rt.alloc(), &[NAMED, line, "\n", other])?;
+        try_layout(rt, file, &text, &refusal)?;
+    }
+    Ok(())
+}
+
 #[test]
 fn names_the_first_faulty_line(rt: HostRuntime) -> Result<(), Fail> {
-    let alloc = rt.alloc();
-    let small = executable(alloc, HI, b"hi\n", 3)?;
-    for (text, refusal) in LAYOUTS {
-        try_layout(&rt, &small, text, refusal)?;
-    }
-    let file = executable(alloc, HI, b"hi\n", 192)?;
-    for (line, rule) in FAULTY {
-        let last = text_of(alloc, &[NAMED, "#\n\n  \n", line])?;
-        let refusal = text_of(alloc, &[rule, " at line 5"])?;
-        try_layout(&rt, &file, &last, &refusal)?;
-        let refusal = text_of(alloc, &[rule, " at line 2"])?;
-        for (other, _) in FAULTY {
-            let both = text_of(alloc, &[NAMED, line, "\n", other])?;
-            try_layout(&rt, &file, &both, &refusal)?;
-        }
+    let small = executable(rt.alloc(), HI, b"hi\n", 3)?;
+    try_layouts(&rt, &small)?;
+    let file = executable(rt.alloc(), HI, b"hi\n", 192)?;
+    for &(line, rule) in &FAULTY {
+        try_last(&rt, &file, line, rule)?;
+        try_first(&rt, &file, line, rule)?;
     }
     Ok(())
 }

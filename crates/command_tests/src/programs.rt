@@ -12,7 +12,7 @@ pub const FALSE_LOAD: &str = "lui x5, 0x20; lw x6, 0(x5); addi x10, x6, 0; addi 
 pub const FALSE_MISS: &str =
     "node 0 read 0 exclusive 0 upgrade 0 false 1 invalidations 0 fallbacks 0 messages 0\n";
 
-const CASES: [Case; 9] = [
+static CASES: [Case; 9] = [
     Case {
         input: Input::Program(HI, b"hi\n", 3),
         text: "",
@@ -113,7 +113,7 @@ fn answers_for_a_program_that_writes(rt: HostRuntime) -> Result<(), Fail> {
 }
 
 /// Programs that print nothing, their data, and how each ends.
-const ENDINGS: [(&str, &str, &str); 13] = [
+static ENDINGS: [(&str, &str, &str); 13] = [
     ("ebreak", "", "ebreak 0x00010000"),
     ("lui x5, 0x80000; lw x6, 0(x5)", "", "access 0x00010004"),
     ("lw x6, -4(x0)", "", "access 0x00010000"),

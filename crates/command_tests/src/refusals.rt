@@ -23,7 +23,7 @@ pub struct RefusalRow {
 }
 
 /// Rules that a file of 8195 bytes breaks, with two program headers and three bytes of data.
-const SMALL: [RefusalRow; 18] = [
+static SMALL: [RefusalRow; 18] = [
     RefusalRow {
         len: 51,
         bytes: &[],
@@ -200,7 +200,7 @@ fn tells_why_a_file_is_refused(rt: HostRuntime) -> Result<(), Fail> {
 }
 
 /// The flag of total store order breaks no rule.
-const ACCEPTED: RefusalRow = RefusalRow {
+static ACCEPTED: RefusalRow = RefusalRow {
     len: WHOLE,
     bytes: &[(36, 0x10)],
     line: "",
@@ -239,7 +239,7 @@ const CODE_SECTION: &str = "00000000 00000001 00000006 00010000 00008000 0000000
 const MANY: usize = 470_000;
 
 /// The rules, ascending.
-const RULES: [RefusalRow; 20] = [
+static RULES: [RefusalRow; 20] = [
     RefusalRow {
         len: 51,
         bytes: &[],

@@ -66,7 +66,7 @@ end
 ";
 
 /// A part of the record, what stands in its place, and why it is refused then.
-const RECORDS: [(&str, &str, &str); 17] = [
+static RECORDS: [(&str, &str, &str); 17] = [
     ("shasta-record 1", "shasta-record", "40 at line 1"),
     ("take 16 1 4\nend\n", "take 16 1 4\n", "40 at line 16"),
     (
@@ -100,13 +100,13 @@ const RECORDS: [(&str, &str, &str); 17] = [
 
 /// The first take in the record, by another text, and why it is refused then; and other texts of
 /// the last one, each of which is refused too.
-const FIRST_TAKES: [(&str, &str); 3] = [
+static FIRST_TAKES: [(&str, &str); 3] = [
     ("take 7 1 6", "44 at node 0 entry 1"),
     ("take 8 0 7", "45 at node 0 entry 1"),
     ("take 8 0 6", "46 at node 0 entry 1"),
 ];
 
-const LAST_TAKES: [&str; 3] = ["take 16 0 4", "take 20 1 8", "take 17 1 4"];
+static LAST_TAKES: [&str; 3] = ["take 16 0 4", "take 20 1 8", "take 17 1 4"];
 
 /// A record of a program of three words, by which each of two nodes ends; then it takes both Byes.
 const ENDS: &str = "shasta-record 1
@@ -128,7 +128,7 @@ const EXITS: &str = "addi x10, x0, 0; addi x17, x0, 93; ecall";
 
 /// Likewise of the record that names the words: one word more than there is; the same where the
 /// layout would be refused too; and a stamp that is 1 too high.
-const NAMED_RECORDS: [(&str, &str, &str); 3] = [
+static NAMED_RECORDS: [(&str, &str, &str); 3] = [
     ("code 15", "code 16", "47 at line 5"),
     (
         "code 15\n",
@@ -140,7 +140,7 @@ const NAMED_RECORDS: [(&str, &str, &str); 3] = [
 
 /// Blocks in the record, and why its layout is refused then: a start that is no multiple of the
 /// size, and two blocks of one line.
-const LAYOUTS: [(&str, &str); 2] = [
+static LAYOUTS: [(&str, &str); 2] = [
     (
         "batch 1\nblock 0x00020020 0x00000040 64 *\n",
         "32 at line 1",
@@ -240,13 +240,32 @@ fn try_records(
     Ok(())
 }
 
+/// Replays the record with each layout that is refused.
+fn try_layouts(rt: &(impl Threads + Wait + Sync + AllocGlobal)) -> Result<(), Fail> {
+    for &(new, why) in &LAYOUTS {
+        let line = ["shasta: layout refused ", why, "\n"];
+        try_refused(rt, RECORD, ("batch 1\n", new), 6, &line)?;
+    }
+    Ok(())
+}
+
 #[test]
 fn refuses_records(rt: HostRuntime) -> Result<(), Fail> {
     try_records(&rt, RECORD, &RECORDS)?;
     try_records(&rt, NAMED, &NAMED_RECORDS)?;
-    for (new, why) in LAYOUTS {
-        let line = ["shasta: layout refused ", why, "\n"];
-        try_refused(&rt, RECORD, ("batch 1\n", new), 6, &line)?;
+    try_layouts(&rt)
+}
+
+/// Replays the record with other texts of its last take, and fails the test where another event is
+/// told.
+fn try_last_takes(
+    rt: &(impl Threads + Wait + Sync + AllocGlobal),
+    record: &str,
+    why: &str,
+) -> Result<(), Fail> {
+    let line = ["shasta: record refused ", why, "\n"];
+    for last in &LAST_TAKES {
+        try_refused(rt, record, ("take 16 1 4", last), 7, &line)?;
     }
     Ok(())
 }
@@ -254,12 +273,9 @@ fn refuses_records(rt: HostRuntime) -> Result<(), Fail> {
 /// Of two events that are refused the first is told, whatever their rules.
 #[test]
 fn refuses_the_first_event(rt: HostRuntime) -> Result<(), Fail> {
-    for (first, why) in FIRST_TAKES {
+    for &(first, why) in &FIRST_TAKES {
         let record = RECORD.replace(rt.alloc(), "take 7 0 6", first)?;
-        for last in LAST_TAKES {
-            let line = ["shasta: record refused ", why, "\n"];
-            try_refused(&rt, &record, ("take 16 1 4", last), 7, &line)?;
-        }
+        try_last_takes(&rt, &record, why)?;
     }
     Ok(())
 }

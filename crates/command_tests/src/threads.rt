@@ -150,7 +150,7 @@ fn counts_behind_a_gate_that_holds(rt: HostRuntime) -> Result<(), Fail> {
 
 /// The text of `sim`, words that lack the record of two nodes, a node that takes messages at its
 /// polls, and a processor that is stopped at its budget.
-const CASES: [Case; 4] = [
+static CASES: [Case; 4] = [
     Case {
         input: Input::Program(READS, b"\x07\x00\x00\x00", 64),
         text: "",

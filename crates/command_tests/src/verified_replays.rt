@@ -2,11 +2,10 @@
 
 use crate::calls::{call, try_held};
 use crate::watch::CountingGate;
-use std::str::from_utf8;
 use std::sync::Wait;
 use std::test::Fail;
 use std::thread::Threads;
-use test_calls::calls::{Expected, NODE, sure};
+use test_calls::calls::{Expected, NODE, expect_text, sure};
 use test_calls::files::executable;
 
 /// Two loads by one register, which share a check by the program's own plan.
@@ -50,6 +49,19 @@ fn written<'a>(
     Ok(called.written)
 }
 
+/// What is replayed, whole and without the counts.
+const WHOLE: Expected<'static> = Expected {
+    status: 0,
+    out: &[EXITED, NODE],
+    err: "",
+};
+
+const BRIEF: Expected<'static> = Expected {
+    status: 0,
+    out: &[EXITED],
+    err: "",
+};
+
 #[test]
 fn replays_a_verified_file(rt: HostRuntime) -> Result<(), Fail> {
     let input = executable(rt.alloc(), LOADS, b"", 64)?;
@@ -58,30 +70,20 @@ fn replays_a_verified_file(rt: HostRuntime) -> Result<(), Fail> {
     let held = [("IN", input.as_slice()), ("FILE", file.as_slice())];
     let line = "run IN --verify FILE --record OUT";
     let record = written(&rt, &held, line, &[EXITED, NODE])?;
-    assert_eq!(rt; from_utf8(&record)?, RECORD);
+    expect_text(&record, RECORD)?;
     let held = [
         ("IN", input.as_slice()),
         ("FILE", file.as_slice()),
         ("R", record.as_slice()),
     ];
-    for (line, out) in [
-        ("replay IN R --verify FILE", [EXITED, NODE]),
-        ("replay --verify=FILE IN R --brief", [EXITED, ""]),
-    ] {
-        let answer = Expected {
-            status: 0,
-            out: &out,
-            err: "",
-        };
-        try_held(&rt, &held, &[line], &answer)?;
-    }
-    Ok(())
+    try_held(&rt, &held, &["replay IN R --verify FILE"], &WHOLE)?;
+    try_held(&rt, &held, &["replay --verify=FILE IN R --brief"], &BRIEF)
 }
 
 /// A call, its status, and what is told, where FILE has the plan without batches and R the record
 /// of the run by it. The file of the plan is read behind the executable and before the record, and
 /// judged behind both texts.
-const REFUSED: [(&str, u8, &str); 7] = [
+static REFUSED: [(&str, u8, &str); 7] = [
     // the program's own plan has another number of words
     ("replay IN R", 7, "shasta: record refused 47 at line 5\n"),
     (
@@ -108,6 +110,22 @@ const REFUSED: [(&str, u8, &str); 7] = [
     ("replay b R --verify a", 3, "shasta: cannot read b\n"),
 ];
 
+/// Makes each call that is refused, and fails the test where it answers otherwise.
+fn try_each_refused(
+    rt: &(impl Threads + Wait + Sync + AllocGlobal),
+    held: &[(&str, &[u8])],
+) -> Result<(), Fail> {
+    for &(line, status, err) in &REFUSED {
+        let answer = Expected {
+            status,
+            out: &[],
+            err,
+        };
+        try_held(rt, held, &[line], &answer)?;
+    }
+    Ok(())
+}
+
 #[test]
 fn refuses_a_replay_by_a_file(rt: HostRuntime) -> Result<(), Fail> {
     let input = executable(rt.alloc(), LOADS, b"", 64)?;
@@ -118,13 +136,5 @@ fn refuses_a_replay_by_a_file(rt: HostRuntime) -> Result<(), Fail> {
         ("FILE", file.as_slice()),
         ("R", RECORD.as_bytes()),
     ];
-    for (line, status, err) in REFUSED {
-        let answer = Expected {
-            status,
-            out: &[],
-            err,
-        };
-        try_held(&rt, &held, &[line], &answer)?;
-    }
-    Ok(())
+    try_each_refused(&rt, &held)
 }

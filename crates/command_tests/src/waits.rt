@@ -38,7 +38,7 @@ processor 14 stopped 10000
 processor 15 stopped 10000
 ";
 
-const CASES: [Case; 3] = [
+static CASES: [Case; 3] = [
     Case {
         input: Input::Program(SPINS, b"", 64),
         text: "",

@@ -28,7 +28,7 @@ mulhu x3, x4, x5
 jal x1, 0x00010000";
 
 /// The code words of the names' text.
-const NAMES_WORDS: [u32; 6] = [
+static NAMES_WORDS: [u32; 6] = [
     0x00c0006f, 0x0ff0000f, 0x00000000, 0xfe208ce3, 0x025231b3, 0xfedff0ef,
 ];
 
@@ -56,7 +56,7 @@ fn assembles_names(rt: HostRuntime) -> Result<(), Fail> {
 }
 
 /// A text of lines, with the number of the rule that refuses it and the line.
-const REFUSED: [(&[u8], u8, usize); 39] = [
+static REFUSED: [(&[u8], u8, usize); 39] = [
     (b".segment rx 0x10000\naddi x1, x0, 2048\n", 61, 2),
     (b".segment rx 0x10000\njal x0, there", 62, 2),
     (b"", 65, 1),
@@ -111,12 +111,18 @@ fn refusal(alloc: Global, text: &[u8]) -> Result<(u8, usize), Fail> {
     }
 }
 
+/// Fails the test where a text isn't refused by this rule at this line.
+fn try_refused(alloc: Global, text: &[u8], number: u8, line: usize) -> Result<(), Fail> {
+    if refusal(alloc, text)? == (number, line) {
+        return Ok(());
+    }
+    Err(Fail::new(format_args!("{number} at line {line}")))
+}
+
 #[test]
 fn refuses(rt: HostRuntime) -> Result<(), Fail> {
-    for (text, number, line) in REFUSED {
-        if refusal(rt.alloc(), text)? != (number, line) {
-            return Err(Fail::new(format_args!("{number} at line {line}")));
-        }
+    for &(text, number, line) in &REFUSED {
+        try_refused(rt.alloc(), text, number, line)?;
     }
     Ok(())
 }

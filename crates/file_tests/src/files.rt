@@ -3,7 +3,7 @@
 use std::alloc::{AllocError, Global};
 
 /// The headers of an executable with 32 bytes of code and 3 of data, as little-endian words.
-const HEADERS: [u32; 29] = [
+static HEADERS: [u32; 29] = [
     // e_ident, e_type and e_machine, e_version, e_entry, e_phoff, e_shoff, e_flags
     0x464c457f, 0x00010101, 0, 0, 0x00f30002, 1, 0x10000, 52, 0, 0,
     // e_ehsize and e_phentsize, e_phnum and e_shentsize, e_shnum and e_shstrndx
@@ -15,7 +15,7 @@ const HEADERS: [u32; 29] = [
 ];
 
 /// The code of a program that writes `hi` and ends.
-pub const CODE: [u32; 8] = [
+pub static CODE: [u32; 8] = [
     0x000205b7, 0x00100513, 0x00300613, 0x04000893, 0x00000073, 0x00000513, 0x05d00893, 0x00000073,
 ];
 

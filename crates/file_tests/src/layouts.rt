@@ -29,33 +29,42 @@ fn fault_in(alloc: Global, text: &str) -> Result<Option<(u8, usize)>, Fail> {
     }
 }
 
+/// Texts of layouts, and the number and the line of the refusal, where one is refused.
+static TEXTS: [(&str, Option<(u8, usize)>); 14] = [
+    ("", None),
+    ("\n  \n# one line\n0x00020000   0x40 00064 *", None),
+    ("0x20000 0x40 64 00\n", None),
+    ("0x20000 0x40 64 0 \n", Some((30, 1))),
+    (" 0x20000 0x40 64 0\n", Some((30, 1))),
+    ("0x20000\t0x40 64 0\n", Some((30, 1))),
+    ("\n0x20000 0x40 64 0\r\n", Some((30, 2))),
+    ("0x020020000 0x40 64 0\n", Some((30, 1))),
+    ("0x20000 0x40 96 0\n", Some((31, 1))),
+    ("0x20020 0x40 64 *\n", Some((32, 1))),
+    ("0x20000 0xffffffff 64 0\n", Some((32, 1))),
+    ("0x20000 0x80 64 0\n", Some((33, 1))),
+    ("0x20000 0x40 64 0\n0x20000 0x40 64 0\n", Some((34, 2))),
+    ("0x20000 0x40 64 99\n", Some((35, 1))),
+];
+
+/// Fails the test where a text isn't judged so.
+fn try_text(alloc: Global, text: &str, wanted: Option<(u8, usize)>) -> Result<(), Fail> {
+    if fault_in(alloc, text)? == wanted {
+        return Ok(());
+    }
+    Err(Fail::new(format_args!("{text}")))
+}
+
 #[test]
 fn judges_lines(rt: HostRuntime) -> Result<(), Fail> {
-    for (text, wanted) in [
-        ("", None),
-        ("\n  \n# one line\n0x00020000   0x40 00064 *", None),
-        ("0x20000 0x40 64 00\n", None),
-        ("0x20000 0x40 64 0 \n", Some((30, 1))),
-        (" 0x20000 0x40 64 0\n", Some((30, 1))),
-        ("0x20000\t0x40 64 0\n", Some((30, 1))),
-        ("\n0x20000 0x40 64 0\r\n", Some((30, 2))),
-        ("0x020020000 0x40 64 0\n", Some((30, 1))),
-        ("0x20000 0x40 96 0\n", Some((31, 1))),
-        ("0x20020 0x40 64 *\n", Some((32, 1))),
-        ("0x20000 0xffffffff 64 0\n", Some((32, 1))),
-        ("0x20000 0x80 64 0\n", Some((33, 1))),
-        ("0x20000 0x40 64 0\n0x20000 0x40 64 0\n", Some((34, 2))),
-        ("0x20000 0x40 64 99\n", Some((35, 1))),
-    ] {
-        if fault_in(rt.alloc(), text)? != wanted {
-            return Err(Fail::new(format_args!("{text}")));
-        }
+    for &(text, wanted) in &TEXTS {
+        try_text(rt.alloc(), text, wanted)?;
     }
     Ok(())
 }
 
 /// Lines, and the block of each.
-const BLOCKS: [(u32, Option<u32>); 8] = [
+static BLOCKS: [(u32, Option<u32>); 8] = [
     (0x7ff, None),
     (0x800, Some(0)),
     (0x83f, Some(0)),
@@ -67,7 +76,7 @@ const BLOCKS: [(u32, Option<u32>); 8] = [
 ];
 
 /// Blocks: the home of each, its first line, how many it has, and how many are before it.
-const PLACES: [(u32, u8, u32, u32, u32); 3] = [
+static PLACES: [(u32, u8, u32, u32, u32); 3] = [
     (0, 0, 0x800, 64, 0),
     (1, 1, 0x840, 2, 0x40),
     (63, 1, 0x87f, 1, 0x7f),
@@ -75,7 +84,7 @@ const PLACES: [(u32, u8, u32, u32, u32); 3] = [
 
 /// Whether lines have these blocks.
 fn has_blocks(layout: &Layout) -> bool {
-    for (line, wanted) in BLOCKS {
+    for &(line, wanted) in &BLOCKS {
         if layout.block_of(line) != wanted {
             return false;
         }
@@ -83,15 +92,19 @@ fn has_blocks(layout: &Layout) -> bool {
     layout.blocks() == 64 && layout.shared_lines() == 128
 }
 
+/// Whether a block has this home, this first line, and so many lines in it and before it.
+fn has_place(layout: &Layout, block: u32, home: u8, first: u32, lines: u32, start: u32) -> bool {
+    block < layout.blocks()
+        && layout.home(block) == home
+        && layout.first_line(block) == first
+        && layout.lines(block) == lines
+        && layout.start(block) == start
+}
+
 /// Whether blocks have these places.
 fn has_places(layout: &Layout) -> bool {
-    for (block, home, first, lines, start) in PLACES {
-        if block >= layout.blocks()
-            || layout.home(block) != home
-            || layout.first_line(block) != first
-            || layout.lines(block) != lines
-            || layout.start(block) != start
-        {
+    for &(block, home, first, lines, start) in &PLACES {
+        if !has_place(layout, block, home, first, lines, start) {
             return false;
         }
     }

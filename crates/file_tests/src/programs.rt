@@ -46,7 +46,7 @@ fn maps_code_and_data(rt: HostRuntime) -> Result<(), Fail> {
 }
 
 /// The same code with another first word, which is `csrrs x5, cycle, x0`.
-const UNSUPPORTED: [u32; 8] = [
+static UNSUPPORTED: [u32; 8] = [
     0xc00022f3, 0x00100513, 0x00300613, 0x04000893, 0x00000073, 0x00000513, 0x05d00893, 0x00000073,
 ];
 

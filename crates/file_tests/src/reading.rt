@@ -7,7 +7,7 @@ use std::alloc::{AllocError, Global};
 use std::test::Fail;
 
 /// The ELF header and three program headers.
-const HEADERS: [u32; 37] = [
+static HEADERS: [u32; 37] = [
     // e_ident, e_type and e_machine, e_version, e_entry, e_phoff, e_shoff, e_flags
     0x464c457f, 0x00010101, 0, 0, 0x00f30002, 1, 0x10094, 52, 0x420, 0,
     // e_ehsize and e_phentsize, e_phnum and e_shentsize, e_shnum and e_shstrndx
@@ -26,7 +26,7 @@ const NAMES: &[u8] =
 
 /// The section headers: name, type, flags, address, offset, size, link, info, alignment, entry
 /// size.
-const SECTIONS: [[u32; 10]; 8] = [
+static SECTIONS: [[u32; 10]; 8] = [
     [0; 10],
     [1, 1, 6, 0x10094, 0x94, 0x20, 0, 0, 4, 0],
     [7, 1, 2, 0x100b4, 0xb4, 0x300, 0, 0, 4, 0],

@@ -14,7 +14,7 @@ fn segments<'a>(
     data_size: u32,
 ) -> Result<Vec<Segment<'a>>, Fail> {
     let mut all = Vec::new(alloc);
-    let memsz = u32::try_from(code.len()).map_err(|_| "too long")?;
+    let memsz = u32::try_from(code.len())?;
     all.push(Segment {
         flags: 5,
         vaddr: 0x10000,
@@ -62,7 +62,7 @@ fn sections<'a>(
     none: &'a [u8],
 ) -> Result<Vec<Section<'a>>, Fail> {
     let mut all = Vec::new(alloc);
-    let size = u32::try_from(bytes.len()).map_err(|_| "too long")?;
+    let size = u32::try_from(bytes.len())?;
     all.push(Section {
         name,
         kind: 0x80000001,
@@ -102,7 +102,7 @@ fn has(file: &[u8], offset: usize, bytes: &[u8]) -> bool {
 const SIZE: usize = 0x2000 + 8 + 20 + 160;
 
 /// Offsets of the file, and bytes there.
-const PARTS: [(usize, &[u8]); 3] = [
+static PARTS: [(usize, &[u8]); 3] = [
     (0x2000, b"12345\0\0\0\0.plan\0\0.shstrtab\0\0\0"),
     // e_shoff
     (32, &[0x1c, 0x20, 0, 0]),
@@ -113,7 +113,7 @@ const PARTS: [(usize, &[u8]); 3] = [
 #[test]
 fn writes_sections(rt: HostRuntime) -> Result<(), Fail> {
     let out = file_of_sections(rt.alloc())?;
-    for (offset, bytes) in PARTS {
+    for &(offset, bytes) in &PARTS {
         if !has(&out, offset, bytes) || out.len() != SIZE {
             return Err(Fail::new(format_args!("at {offset}")));
         }
