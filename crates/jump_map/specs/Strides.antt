@@ -94,6 +94,21 @@ IsPlain stride.AddThenPollOverLtu m = m.kind ≡ kind.Add
 IsPlain stride.AddThenPollOverGeu m = m.kind ≡ kind.Add
 IsPlain k m = Unit {0}
 
+-- what a stride of one word leads to is one of so many words: the one behind its own, and the one
+-- that it jumps to. Of a slow one and of an indirect jump nothing is said
+abbrev pub IsInside : StrideKind → MicroOp → (k words : ℕ) → Type 0
+IsInside stride.Slow m k words = Unit {0}
+IsInside stride.EnterBy m k words = Unit {0}
+IsInside stride.Jump m k words = m.imm < words
+IsInside stride.Link m k words = m.imm < words
+IsInside stride.BranchEq m k words = (k + 1 < words) × (m.imm < words)
+IsInside stride.BranchNe m k words = (k + 1 < words) × (m.imm < words)
+IsInside stride.BranchLt m k words = (k + 1 < words) × (m.imm < words)
+IsInside stride.BranchGe m k words = (k + 1 < words) × (m.imm < words)
+IsInside stride.BranchLtu m k words = (k + 1 < words) × (m.imm < words)
+IsInside stride.BranchGeu m k words = (k + 1 < words) × (m.imm < words)
+IsInside is m k words = k + 1 < words
+
 -- this micro-op stands at a number
 abbrev pub StandsAt : List MicroOp → ℕ → MicroOp → Type 0
 StandsAt micros k m = slice_get micros k ≡ Some m
@@ -108,12 +123,13 @@ pub record IsPolled (micros : List MicroOp) (k : ℕ) : Type 0 where
   pub there : StandsAt micros k poll
   pub is : poll.kind ≡ kind.Nothing
 
--- a jump that keeps no link
+-- a jump that keeps no link, to another word
 pub record IsJump (micros : List MicroOp) (k : ℕ) : Type 0 where
   pub jump : MicroOp
   pub there : StandsAt micros k jump
   pub is : jump.kind ≡ kind.Jump
   pub keeps_none : jump.rd ≡ 0
+  pub inside : jump.imm < length micros
 
 -- an indirect jump
 pub record IsEntry (micros : List MicroOp) (k : ℕ) : Type 0 where
@@ -121,15 +137,16 @@ pub record IsEntry (micros : List MicroOp) (k : ℕ) : Type 0 where
   pub there : StandsAt micros k entry
   pub is : entry.kind ≡ kind.EnterBy
 
--- a branch past the jump behind it
+-- a branch past the jump behind it, to another word
 pub record IsOver (micros : List MicroOp) (k : ℕ) (c : MicroKind) : Type 0 where
   pub branch : MicroOp
   pub there : StandsAt micros k branch
   pub is : branch.kind ≡ c
   pub past : branch.imm ≡ k + 2
+  pub next : k + 2 < length micros
   pub jump : IsJump micros (k + 1)
 
--- the two words that put a number into a register
+-- the two words that put a number into a register, with another one behind them
 pub record IsNumber (micros : List MicroOp) (k : ℕ) : Type 0 where
   pub upper : MicroOp
   pub lower : MicroOp
@@ -140,6 +157,7 @@ pub record IsNumber (micros : List MicroOp) (k : ℕ) : Type 0 where
   pub lower_is : lower.kind ≡ kind.AddImm
   pub same_rd : lower.rd ≡ upper.rd
   pub same_rs1 : lower.rs1 ≡ upper.rd
+  pub next : k + 2 < length micros
 
 -- the address of the spill word of a number
 abbrev pub spill_address : ℕ → ℕ
@@ -232,6 +250,7 @@ pub record IsRead (micros : List MicroOp) (k spilled : ℕ) (is : MicroKind) : T
   pub rd_s : load.access.rd ≢ x.s
   pub rd_t : load.access.rd ≢ x.t
   pub take : TakeBack micros (k + spilled + 9) spilled (x.s ∷ x.t ∷ [])
+  pub next : k + spilled + 9 + spilled < length micros
 
 -- a store whose line's state is tested
 pub record IsWrite (micros : List MicroOp) (k spilled : ℕ) (is : MicroKind) : Type 0 where
@@ -244,6 +263,7 @@ pub record IsWrite (micros : List MicroOp) (k spilled : ℕ) (is : MicroKind) : 
   pub rs2_s : store.access.rs2 ≢ x.s
   pub rs2_t : store.access.rs2 ≢ x.t
   pub take : TakeBack micros (k + spilled + 8) spilled (x.s ∷ x.t ∷ [])
+  pub next : k + spilled + 8 + spilled < length micros
 
 -- the words of a load that looks at its value: where that isn't the flag word they go on past the
 -- check and the second load, and where the address is one of the upper half at once to the check
@@ -269,6 +289,7 @@ pub record IsFlagged (micros : List MicroOp) (k spilled : ℕ) : Type 0 where
   pub keep : Keep micros k spilled (s ∷ [])
   pub look : StandFrom micros (k + spilled) (flag_look (k + spilled) s v base imm)
   pub take : TakeBack micros (k + spilled + 7) spilled (s ∷ [])
+  pub next : k + spilled + 7 + spilled < length micros
 
 -- the looks at both lines of a batch, with so many registers spilled
 pub record LooksTwice (micros : List MicroOp) (k spilled : ℕ) (x : Scratch) (u high : ℕ)
@@ -294,18 +315,21 @@ pub record IsReadHead (micros : List MicroOp) (k spilled : ℕ) : Type 0 where
   pub test : StandFrom micros (k + spilled + 10)
       (mask head.x.s ∷ skip head.x.s (k + spilled + 16) ∷ [])
   pub take : TakeBack micros (k + spilled + 16) spilled (head.x.s ∷ head.x.t ∷ head.u ∷ [])
+  pub next : k + spilled + 16 + spilled < length micros
 
 -- that of one that stores
 pub record IsWriteHead (micros : List MicroOp) (k spilled : ℕ) : Type 0 where
   pub head : IsHead micros k spilled
   pub test : StandFrom micros (k + spilled + 10) (skip head.x.s (k + spilled + 15) ∷ [])
   pub take : TakeBack micros (k + spilled + 15) spilled (head.x.s ∷ head.x.t ∷ head.u ∷ [])
+  pub next : k + spilled + 15 + spilled < length micros
 
--- a word of a kind
+-- a word of a kind, with another one behind it
 pub record IsWord (micros : List MicroOp) (k : ℕ) (is : MicroKind) : Type 0 where
   pub micro : MicroOp
   pub there : StandsAt micros k micro
   pub kind_is : micro.kind ≡ is
+  pub next : k + 1 < length micros
 
 -- a poll, and behind it a branch past a jump
 abbrev pub IsPollOver : List MicroOp → ℕ → MicroKind → Type 0
@@ -398,12 +422,13 @@ IsWhole stride.AddThenPollOverLtu micros k = IsPollOver micros (k + 1) kind.Bran
 IsWhole stride.AddThenPollOverGeu micros k = IsPollOver micros (k + 1) kind.BranchGeu
 IsWhole is micros k = Unit {0}
 
--- what a stride says of the words from its own on
+-- what a stride says of the words from its own on, of which each that it may lead to is one
 pub record IsStride (micros : List MicroOp) (k : ℕ) (is : StrideKind) : Type 0 where
   pub micro : MicroOp
   pub there : StandsAt micros k micro
   pub plain : IsPlain is micro
   pub whole : IsWhole is micros k
+  pub inside : IsInside is micro k (length micros)
 
 -- a stride of a whole sequence begins with a word
 abbrev pub Begins : List MicroOp → ℕ → StrideKind → Type 0

@@ -9,7 +9,7 @@ ghost use Rattle.micro_op.specs.Kinds.{branch_kind};
 ghost use Rattle.micro_op.specs.declared.micro_op.MicroOp.{MicroOp};
 ghost use Rattle.jump_map.specs.Image.{most_words};
 ghost use Rattle.jump_map.specs.Strides.{AreApart, Begins, HasStrides, IsEntry, IsFlagged, IsJump};
-ghost use Rattle.jump_map.specs.Strides.{IsNumber};
+ghost use Rattle.jump_map.specs.Strides.{IsInside, IsNumber, IsPlain, IsWhole};
 ghost use Rattle.jump_map.specs.Strides.{IsOver, IsPolled, IsRead, IsReadHead, IsStride, IsWrite};
 ghost use Rattle.jump_map.specs.Strides.{IsWriteHead, Keep, LooksTwice, StandFrom, StandsAt};
 ghost use Rattle.jump_map.specs.Strides.{TakeBack, flag_look, keep, mask, op_of, scratch_of, skip};
@@ -60,9 +60,43 @@ fn alone_at(micros: &[MicroOp], k: usize) -> StrideKind
     ensures { IsStride micros.now k result }
 {
     let op = word(micros, k);
-    match whole_at(micros, k, &op) {
+    let kind = kind_at(micros, k, &op);
+    if is_inside(kind, &op, k, micros.len()) {
+        kind
+    } else {
+        StrideKind::Slow
+    }
+}
+
+/// What is executed at once from the word of a number on, which has this micro-op.
+fn kind_at(micros: &[MicroOp], k: usize, op: &MicroOp) -> StrideKind
+    requires few { k < most_words }
+    ensures plain { IsPlain result op.now }
+    ensures whole { IsWhole result micros.now k }
+{
+    match whole_at(micros, k, op) {
         Some(kind) => kind,
-        None => StrideKind::plain(&op),
+        None => StrideKind::plain(op),
+    }
+}
+
+/// Whether what a stride of one word leads to is one of so many words.
+fn is_inside(kind: StrideKind, op: &MicroOp, k: usize, words: usize) -> bool
+    requires { k < words }
+    ensures { result ≡ true → IsInside kind op.now k words }
+{
+    let next = k + 1 < words;
+    let inside = (op.imm as usize) < words;
+    match kind {
+        StrideKind::Slow | StrideKind::EnterBy => true,
+        StrideKind::Jump | StrideKind::Link => inside,
+        StrideKind::BranchEq
+        | StrideKind::BranchNe
+        | StrideKind::BranchLt
+        | StrideKind::BranchGe
+        | StrideKind::BranchLtu
+        | StrideKind::BranchGeu => next && inside,
+        _ => next,
     }
 }
 
@@ -175,13 +209,13 @@ fn polled_at(micros: &[MicroOp], k: usize) -> Option<StrideKind>
     }
 }
 
-/// A branch past the jump behind it.
+/// A branch past the jump behind it, to another word.
 fn over_at(micros: &[MicroOp], k: usize) -> Option<Cond>
     requires few { k ≤ most_words }
     ensures { IfSome result (λ c. IsOver micros.now k (branch_kind c)) }
 {
     let op = word(micros, k);
-    if op.imm as usize != k + 2 || !jumps_at(micros, k + 1) {
+    if op.imm as usize != k + 2 || k + 2 >= micros.len() || !jumps_at(micros, k + 1) {
         return None;
     }
     match op.kind {
@@ -225,12 +259,12 @@ fn poll_over(c: Cond) -> StrideKind
     }
 }
 
-/// A jump that keeps no link.
+/// A jump that keeps no link, to another word.
 fn jumps_at(micros: &[MicroOp], k: usize) -> bool
     ensures { result ≡ true → IsJump micros.now k }
 {
     let op = word(micros, k);
-    op.kind == MicroKind::Jump && op.rd == Reg::ZERO
+    op.kind == MicroKind::Jump && op.rd == Reg::ZERO && (op.imm as usize) < micros.len()
 }
 
 /// A word that changes nothing.
@@ -261,7 +295,7 @@ fn number_at(micros: &[MicroOp], k: usize) -> Option<StrideKind>
     }
 }
 
-/// Whether two words put a number into a register.
+/// Whether two words put a number into a register, with another one behind them.
 fn is_number(micros: &[MicroOp], k: usize) -> bool
     requires few { k < most_words }
     ensures { result ≡ true → IsNumber micros.now k }
@@ -273,6 +307,7 @@ fn is_number(micros: &[MicroOp], k: usize) -> bool
         && lower.kind == MicroKind::AddImm
         && lower.rd == upper.rd
         && lower.rs1 == upper.rd
+        && k + 2 < micros.len()
 }
 
 /// A check that begins with a spill.
@@ -574,12 +609,13 @@ fn keeps(micros: &[MicroOp], k: usize, registers: &[Reg], spilled: usize) -> boo
     true
 }
 
-/// Whether they take them back.
+/// Whether they take them back, with another word behind them.
 fn takes(micros: &[MicroOp], k: usize, registers: &[Reg], spilled: usize) -> bool
     requires few { k < 2 ^ 32 }
     requires spilled { spilled ≤ 3 }
     requires short { length registers.now ≤ 3 }
-    ensures { result ≡ true → TakeBack micros.now k spilled registers.now }
+    ensures back { result ≡ true → TakeBack micros.now k spilled registers.now }
+    ensures next { result ≡ true → k + spilled < length micros.now }
 {
     let kept = registers.len().saturating_sub(spilled);
     for i in 0..spilled {
@@ -588,7 +624,7 @@ fn takes(micros: &[MicroOp], k: usize, registers: &[Reg], spilled: usize) -> boo
             _ => return false,
         }
     }
-    true
+    k + spilled < micros.len()
 }
 
 /// Keeps a register in the spill word of a number.

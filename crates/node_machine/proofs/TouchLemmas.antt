@@ -1,6 +1,7 @@
 -- What the micro-op of a word tells of its access.
 use Rattle.std.proofs.Common.{◌≡◌, ◌≢◌, ℕ, ◌+◌, ◌-◌, ◌*◌, ◌/◌, ◌%◌, ◌^◌, ◌<◌, ◌≤◌, Bool, true, false, cond, leb, ltb, eqb, List, length, Option, Some, None, refl, sym, ap, ◌∙◌, subst, arith}
 use Rattle.std.proofs.lemmas.Bool.Decides.{nat_tests}
+use Rattle.std.proofs.lemmas.Option.{slice_get_within}
 use Rattle.std.specs.Prelude.{slice_get}
 use Rattle.rv32_decode.specs.declared.LoadKind.{LoadKind}
 use Rattle.rv32_decode.specs.declared.Width.{Width}
@@ -29,7 +30,7 @@ use Rattle.node_words.specs.jump_map.Maps.{fetch}
 use Rattle.node_words.specs.jump_map.Micro.{IsMicroWord, IsMicroAt}
 use Rattle.node_words.specs.node_model.Node.{Node, Work, ProcessorState, NodeMemory, WordOutcome, Nothing_counted, region_of, native, indirect, execute_read, execute_at, place_address}
 use Rattle.node_words.specs.Address.{word_address}
-use Rattle.node_words.proofs.StepLemmas.{got_below, load_next, store_next}
+use Rattle.node_words.proofs.StepLemmas.{load_next, store_next}
 use Rattle.node_machine.specs.declared.node_state.NodeState.{NodeState}
 use Rattle.node_machine.specs.NodeState.{node_of, work_of, IsNode}
 use Rattle.node_machine.specs.declared.touch.Touch.{Touch}
@@ -206,7 +207,7 @@ module _ (work : Work) (n : Node) where
 fetch_word : (image : List Cell) (at : ℕ) (c : Cell) → length image ≤ most_words → slice_get image at ≡ Some c
     → fetch image (word_address at) ≡ Some (read_cell c)
 fetch_word image at c few is =
-    let below = got_below image at c is in
+    let below = slice_get_within image at c is in
     let new : word_address at ≡ image_base + 4 * at = omega arith in
     let low : leb image_base (image_base + 4 * at) ≡ true = grind (arith, nat_tests) in
     let rest : (image_base + 4 * at) % 4 ≡ 0 = omega arith in
@@ -219,7 +220,7 @@ touched : (work : Work) (n : Node) (at : ℕ) (m : MicroOp) (t : Touch) → leng
     → Means work n t (meaning_of image_base m n.lane.registers) → IsTouch work n t
 touched work n at m t few here there means =
     let c = there.cell in
-    let below = got_below work.image at c there.there in
+    let below = slice_get_within work.image at c there.there in
     let new : image_base + 4 * at ≡ n.lane.at = omega (arith, here, below, few) in
     let word = subst (λ (x : ℕ). IsMicroWord x (read_word c.word) m) new there.micro in
     let got = ap (fetch work.image) here ∙ fetch_word work.image at c few there.there in

@@ -1,4 +1,5 @@
 -- Words of an image, one after another, whatever body a node has between them.
+use Rattle.std.proofs.lemmas.Option.{slice_get_within}
 use Rattle.std.proofs.Common.{◌≡◌, ◌≢◌, ℕ, zero, suc, ◌+◌, ◌<◌, ◌≤◌, true, List, [], length, Option, Some, None, refl, sym, ap, ◌∙◌, subst, arith}
 use Rattle.node_memory.specs.exec_map.Contents.{program_of}
 use Rattle.rv32_program.specs.Program.{Program}
@@ -24,7 +25,7 @@ use Rattle.node_memory.specs.Shelf.{Ground, ground_of, local_of}
 use Rattle.node_words.specs.Kept.{lane_of}
 use Rattle.node_words.specs.GoingOn.{GoesFurther, node_on, phase_on}
 use Rattle.node_words.specs.Runs.{GoesOnBy}
-use Rattle.node_words.proofs.StepLemmas.{far_is, fetch_word, got_below}
+use Rattle.node_words.proofs.StepLemmas.{far_is, fetch_word}
 use Rattle.node_words.proofs.WordLemmas.{runs_on, still_may}
 
 -- a program's image, and its micro-ops
@@ -195,7 +196,7 @@ pub outcome_at : (program : Program) (image : List Cell) (k : ℕ) (op : MicroOp
     → meaning_of image_base op l.registers ≡ Demands d
     → (place : ℕ) × (next_outcome program image l m ≡ native program place l.at l m d)
 outcome_at program image k op l m d few is here means =
-    let below = got_below image k is.cell is.there in
+    let below = slice_get_within image k is.cell is.there in
     let new : address_of_word k ≡ word_address k = omega (arith, below, few) in
     let micro : IsMicroWord l.at (read_cell is.cell).what op =
     subst (λ (x : ℕ). IsMicroWord x (read_cell is.cell).what op) (new ∙ sym here) is.micro in

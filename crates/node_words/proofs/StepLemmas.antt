@@ -22,6 +22,8 @@ use Rattle.std.proofs.Common.{eqb, ◌&&◌}
 use Rattle.std.specs.Prelude.{position}
 use Rattle.std.specs.Option.{option_map}
 use Rattle.std.proofs.lemmas.Bool.Decides.{nat_tests}
+use Rattle.std.proofs.lemmas.List.Quantifiers.{position-Some}
+use Rattle.std.proofs.lemmas.Option.{slice_get_within}
 use Rattle.node_memory.specs.dsm_messages.declared.messages.Need.TheVariants.{Read}
 use Rattle.node_memory.specs.rv32_step.Demands.{cut_short}
 use Rattle.node_memory.specs.rv32_step.Registers.{put, registers_of}
@@ -131,13 +133,14 @@ pub put_zero : (registers : ℕ → ℕ) (value : ℕ) → put registers 0 value
 unfolding put
 put_zero registers value = fun_ext (λ q. rw (and_false (eqb q 0)) refl)
 
-address_some : (o : Option ℕ) (new : ℕ) → option_map address_of_word o ≡ Some new → (k : ℕ) × (new ≡ address_of_word k)
-address_some None new is = absurd (cc)
-address_some (Some k) new is = (k, cc)
-
--- an address of the sequence of an original address
-pub new_address : (image : List Cell) (a new : ℕ) → new_of image a ≡ Some new → (k : ℕ) × (new ≡ address_of_word k)
-new_address image a new is = address_some (position (begins_at a) image) new is
+-- an address of the sequence of an original address, which is that of a word of the image
+pub new_address : (image : List Cell) (a new : ℕ) → new_of image a ≡ Some new → (k : ℕ) × (new ≡ address_of_word k) × (k < length image)
+new_address image a new is = by (position (begins_at a) image) refl is
+  where
+    by : (o : Option ℕ) → position (begins_at a) image ≡ o → option_map address_of_word o ≡ Some new
+        → (k : ℕ) × (new ≡ address_of_word k) × (k < length image)
+    by None at is = absurd (cc)
+    by (Some k) at is = (k, cc, (position-Some (begins_at a) image k (record { word = 0; place = None }) at).0)
 
 -- the sequence of an original address follows
 pub enter_follows : (image : List Cell) (l : kept.ProcessorState) (s : Shelf) (at place original new k : ℕ) → original % 4 ≡ 0 → new_of image original ≡ Some new → word_address k ≡ new → Follows image (indirect place (lane_of l (word_address at)) (local_of s) 0 original) (ground_of s) (word_address k) l s
@@ -220,14 +223,9 @@ micro_served image (Some (Far number)) place op at k l s l' s' is steps =
     number) jumps
 micro_served image (Some w) place op at k l s l' s' is steps = absurd (slow_steps image op at k l s l' s' is steps)
 
-pub got_below : (xs : List Cell) (i : ℕ) (c : Cell) → slice_get xs i ≡ Some c → i < length xs
-got_below [] i c is = absurd (cc)
-got_below (x ∷ xs) zero c is = omega arith
-got_below (x ∷ xs) (suc i) c is = let rest = got_below xs i c is in omega arith
-
 pub fetch_word : (image : List Cell) (at : ℕ) (c : Cell) → length image ≤ most_words → slice_get image at ≡ Some c → fetch image (word_address at) ≡ Some (read_cell c)
 fetch_word image at c few is =
-    let below = got_below image at c is in
+    let below = slice_get_within image at c is in
     let new : word_address at ≡ image_base + 4 * at = omega arith in
     let low : leb image_base (image_base + 4 * at) ≡ true = grind (arith, nat_tests) in
     let rest : (image_base + 4 * at) % 4 ≡ 0 = omega arith in
@@ -238,7 +236,7 @@ fetch_word image at c few is =
 pub micro_step : (image : List Cell) (op : MicroOp) (at : ℕ) (l : kept.ProcessorState) (s : Shelf) (l' : kept.ProcessorState) (s' : Shelf) (o : Option ℕ) (c : Cell) → length image ≤ most_words → slice_get image at ≡ Some c → IsMicroWord (image_base + 4 * at) (read_word c.word) op → StepsTo image (meaning_of image_base op (registers_of l.registers)) at l s l' s' o → StepsOr image (next_outcome (program_of s.program) image (lane_of l (word_address at)) (local_of s)) l s l' s' o
 micro_step image op at l s l' s' None c few got is steps = steps
 micro_step image op at l s l' s' (Some k) c few got is steps =
-    let below = got_below image at c got in
+    let below = slice_get_within image at c got in
     let new : image_base + 4 * at ≡ word_address at = omega arith in
     let word = subst (λ (x : ℕ). IsMicroWord x (read_word c.word) op) new is in
     subst (λ (f : Option ImageWord). Follows image (execute_at (program_of s.program) f (lane_of l (word_address at)) (local_of s)) (ground_of s) (word_address k) l' s')

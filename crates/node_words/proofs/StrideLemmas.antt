@@ -1,5 +1,6 @@
 -- One word by its micro-op, and the words of a stride.
-use Rattle.std.proofs.Common.{◌≡◌, ℕ, ◌+◌, ◌-◌, ◌^◌, ◌<◌, ◌≤◌, Bool, true, false, List, Some, length, refl, sym, ap, ◌∙◌, subst, arith}
+use Rattle.std.proofs.Common.{◌≡◌, ℕ, ◌+◌, ◌-◌, ◌^◌, ◌<◌, ◌≤◌, Bool, true, false, List, Option, Some, length, inl, inr, refl, sym, ap, ◌∙◌, subst, arith}
+use Rattle.std.proofs.lemmas.Option.{slice_get_cases, slice_get_past, slice_get_within}
 use Rattle.rv32_decode.specs.declared.LoadKind.{LoadKind}
 use Rattle.rv32_decode.specs.declared.Width.{Width}
 use Rattle.rv32_decode.specs.Widths.{is_aligned, width_of}
@@ -13,7 +14,8 @@ use Rattle.node_memory.specs.micro_op.declared.MicroKind.{MicroKind}
 use Rattle.node_memory.specs.micro_op.declared.MicroKind.TheVariants.{Jump}
 use Rattle.node_memory.specs.micro_op.Micro.{Demands, Meaning, meaning_by, meaning_of}
 use Rattle.node_memory.specs.jump_map.Image.{Cell, image_base, most_words}
-use Rattle.node_memory.specs.jump_map.Micro.{IsMicroAt}
+use Rattle.node_memory.specs.jump_map.Micro.{AreMicrosOf, IsMicroAnswer, IsMicroAt}
+use Rattle.node_memory.specs.jump_map.Strides.{StandsAt}
 use Rattle.node_memory.specs.node_model.Node.{Next, Region, To, load, next_outcome, only_moves, region_of, set_register, store}
 use Rattle.node_words.specs.declared.exec_state.ExecState.{ExecState}
 use Rattle.node_words.specs.declared.strides.Going.{Going}
@@ -149,6 +151,27 @@ pub tried_stride : (t : Bool) (image : List Cell) (m : MicroOp) (from to : Going
     → IsTried t (StridesBy image from b to b') from b to b'
 tried_stride true image m from to b b' few here steps = stride_of_one image m from to b b' few here steps
 tried_stride false image m from to b b' few here stays = stays
+
+-- by the micro-op that stands at its number
+pub word_strides : (image : List Cell) (micros : List MicroOp) (op : MicroOp) (t : Bool) (from to : Going) (b b' : ExecState)
+    → length image ≤ most_words → AreMicrosOf image micros → StandsAt micros from.at op
+    → IsTried t (StepsBy image op from b to b') from b to b' → IsTried t (StridesBy image from b to b') from b to b'
+word_strides image micros op t from to b b' few are there tried =
+    tried_stride t image op from to b b' few
+    (subst (λ (x : Option MicroOp). IsMicroAnswer image from.at x) there (are from.at)) tried
+
+-- there are as many micro-ops as words
+pub as_many : (image : List Cell) (micros : List MicroOp) → AreMicrosOf image micros → length micros ≡ length image
+as_many image micros are = elim (slice_get_cases micros (length image)).1 [
+  | inl some ↦ (let here = subst (λ (x : Option MicroOp). IsMicroAnswer image (length image) x) some.2 (are (length image)) in
+      let below = slice_get_within image (length image) here.cell here.there in absurd (omega (arith, below)))
+  | inr few ↦ elim (slice_get_cases image (length micros)).1 [
+    | inl some ↦ (let none = subst (λ (x : Option MicroOp). IsMicroAnswer image (length micros) x)
+        (slice_get_past micros (length micros) (omega arith)) (are (length micros)) in
+        let is = some.2 in absurd (cc (none, is)))
+    | inr many ↦ (let less = few.0 in let more = many.0 in omega (arith, less, more))
+  ]
+]
 
 -- a silent word
 pub stride_of_silent : (image : List Cell) (from to : Going) (b b' : ExecState)

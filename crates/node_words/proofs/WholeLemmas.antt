@@ -1,4 +1,5 @@
 -- Whole sequences, from body to body.
+use Rattle.std.proofs.lemmas.Option.{slice_get_within}
 use Rattle.std.proofs.Common.{◌≡◌, ◌≢◌, ℕ, zero, suc, ◌+◌, ◌-◌, ◌*◌, ◌/◌, ◌%◌, ◌^◌, ◌<◌, ◌≤◌, Bool, true, false, ◌==◌, List, [], ◌∷◌, length, Some, refl, sym, ap, ◌∙◌, subst, arith}
 use Rattle.std.specs.Prelude.{bit_and, bit_or, slice_index, slice_index_or}
 use Rattle.rv32_decode.specs.declared.Cond.{Cond}
@@ -24,7 +25,7 @@ use Rattle.node_memory.specs.Shelf.{ground_of, local_of}
 use Rattle.node_words.specs.Kept.{StepsTo, lane_of}
 use Rattle.node_words.specs.declared.strides.Going.{Going}
 use Rattle.node_words.specs.Strides.{Gives, IsStored, IsTried, StepsBy, StridesBy, left_by_check, left_by_head, left_one, state_at}
-use Rattle.node_words.proofs.StepLemmas.{got_below, micro_step}
+use Rattle.node_words.proofs.StepLemmas.{micro_step}
 use Rattle.node_words.proofs.WordLemmas.{goes_both, goes_none, goes_one}
 use Rattle.node_words.proofs.StrideLemmas.{stride_of_one, strides_both, tried_stride}
 use Rattle.node_words.proofs.ReachLemmas.{Code, Reaches, reaches_both, reaches_further, stands_in}
@@ -316,15 +317,10 @@ pub found_at : (micros : List MicroOp) (k : ℕ) (found m : MicroOp) → found �
     → StandsAt micros k m → found ≡ m
 found_at micros k found m is stands = is ∙ read_at micros k found m stands
 
-pub stands_below : (micros : List MicroOp) (k : ℕ) (m : MicroOp) → StandsAt micros k m → k < length micros
-stands_below [] k m is = absurd (cc)
-stands_below (x ∷ xs) zero m is = omega arith
-stands_below (x ∷ xs) (suc k) m is = let rest = stands_below xs k m is in omega (arith, rest)
-
 pub stands_low : (c : Code) (k : ℕ) (m : MicroOp) → StandsAt c.micros k m → k < most_words
 stands_low c k m stands =
     let is = stands_in c k m stands in
-    let below = got_below c.image k is.cell is.there in
+    let below = slice_get_within c.image k is.cell is.there in
     let few = c.few in
     omega (arith, below, few)
 

@@ -4,7 +4,7 @@
 //! changed, and the word is left to the path that serves every word.
 
 ghost use Rattle.std.specs.Prelude.{◌≡◌, ◌≢◌, ◌+◌, ◌*◌, ◌/◌, ◌^◌, ◌<◌, ◌≤◌, ℕ, List, Some};
-ghost use Rattle.std.specs.Prelude.{IfSome, true, false};
+ghost use Rattle.std.specs.Prelude.{IfSome, true, false, length};
 ghost use Rattle.rv32_decode.specs.declared.LoadKind.{LoadKind};
 ghost use Rattle.rv32_ops.specs.Operations as operations;
 ghost use Rattle.node_memory.specs.rv32_step.Registers.{reg, registers_of};
@@ -33,12 +33,12 @@ use node_memory::jump_map::{IMAGE_BASE, Image};
 use node_memory::micro_op::MicroOp;
 use node_memory::runtime_words::FLAG_WORD;
 use node_memory::{is_readable, is_writable};
-use rv32_decode::{Cond, LoadKind, Op, Width};
+use rv32_decode::{Cond, LoadKind, Op, Reg, Width};
 use rv32_ops::{alu, extend, taken};
 
 impl<'a> ExecState<'a> {
     /// A word that changes nothing.
-    #[inline(always)]
+    #[inline]
     pub(crate) fn nothing(&self, op: &MicroOp, going: &mut Going) -> bool
         requires room { 0 < going.old.left }
         requires low { going.old.at ≤ most_words }
@@ -47,13 +47,14 @@ impl<'a> ExecState<'a> {
         ensures tried { (image : List Cell) → IsTried result
             (StepsBy image op.now going.old self.now going.new self.now)
             going.old self.now going.new self.now }
+        ensures next { going.new.at ≡ going.old.at + 1 }
     {
         going.on(1, 1);
         true
     }
 
     /// Puts a number into a register.
-    #[inline(always)]
+    #[inline]
     pub(crate) fn constant(&mut self, op: &MicroOp, going: &mut Going) -> bool
         requires room { 0 < going.old.left }
         requires low { going.old.at ≤ most_words }
@@ -62,6 +63,7 @@ impl<'a> ExecState<'a> {
         ensures tried { (image : List Cell) → IsTried result
             (StepsBy image op.now going.old self.old going.new self.new)
             going.old self.old going.new self.new }
+        ensures next { going.new.at ≡ going.old.at + 1 }
         ensures counts { self.new.counts ≡ self.old.counts }
         ensures log { self.new.log ≡ self.old.log }
         ensures undoable { StaysUndoable self.old self.new }
@@ -141,7 +143,7 @@ impl<'a> ExecState<'a> {
     }
 
     /// A slow operation on two registers.
-    #[inline(always)]
+    #[inline]
     pub(crate) fn by_slow(&mut self, o: Op, op: &MicroOp, going: &mut Going) -> bool
         requires room { 0 < going.old.left }
         requires low { going.old.at ≤ most_words }
@@ -150,29 +152,30 @@ impl<'a> ExecState<'a> {
         ensures tried { (image : List Cell) → IsTried result
             (StepsBy image op.now going.old self.old going.new self.new)
             going.old self.old going.new self.new }
+        ensures next { going.new.at ≡ going.old.at + 1 }
         ensures counts { self.new.counts ≡ self.old.counts }
         ensures log { self.new.log ≡ self.old.log }
         ensures undoable { StaysUndoable self.old self.new }
     {
-        self.put_result(o, op);
+        self.put_result(o, op.rd, op.rs1, op.rs2);
         going.on(1, 1);
         true
     }
 
     /// Puts the result of an operation on two registers into a register.
     #[inline(never)]
-    fn put_result(&mut self, o: Op, op: &MicroOp)
+    fn put_result(&mut self, o: Op, rd: Reg, rs1: Reg, rs2: Reg)
         ensures lane { let registers = registers_of self.old.lane.registers in (at : ℕ)
-            → lane_of self.new.lane at ≡ set_register (lane_of self.old.lane at) op.now.rd
-            (operations.alu o (reg registers op.now.rs1) (reg registers op.now.rs2)) }
+            → lane_of self.new.lane at ≡ set_register (lane_of self.old.lane at) rd
+            (operations.alu o (reg registers rs1) (reg registers rs2)) }
         ensures local { self.new.local ≡ self.old.local }
         ensures counts { self.new.counts ≡ self.old.counts }
         ensures log { self.new.log ≡ self.old.log }
         ensures undoable { StaysUndoable self.old self.new }
     {
-        let a = self.lane.registers.get(op.rs1);
-        let value = alu(o, a, self.lane.registers.get(op.rs2));
-        self.lane.registers.set(op.rd, value);
+        let a = self.lane.registers.get(rs1);
+        let value = alu(o, a, self.lane.registers.get(rs2));
+        self.lane.registers.set(rd, value);
     }
 
     /// A jump that keeps no link, where it is the last of so many words.
@@ -189,7 +192,7 @@ impl<'a> ExecState<'a> {
     }
 
     /// A jump that keeps no link, by itself.
-    #[inline(always)]
+    #[inline]
     pub(crate) fn jump_by(&self, op: &MicroOp, going: &mut Going) -> bool
         requires room { 0 < going.old.left }
         requires is { op.now.kind ≡ micro_kind.Jump }
@@ -197,12 +200,13 @@ impl<'a> ExecState<'a> {
         ensures tried { (image : List Cell) → IsTried result
             (StepsBy image op.now going.old self.now going.new self.now)
             going.old self.now going.new self.now }
+        ensures to { going.new.at ≡ op.now.imm }
     {
         self.jump(1, op, going)
     }
 
     /// A jump that keeps the address of the next word in a register.
-    #[inline(always)]
+    #[inline]
     pub(crate) fn link(&mut self, op: &MicroOp, going: &mut Going) -> bool
         requires room { 0 < going.old.left }
         requires low { going.old.at ≤ most_words }
@@ -211,6 +215,7 @@ impl<'a> ExecState<'a> {
         ensures tried { (image : List Cell) → IsTried result
             (StepsBy image op.now going.old self.old going.new self.new)
             going.old self.old going.new self.new }
+        ensures to { going.new.at ≡ op.now.imm }
         ensures counts { self.new.counts ≡ self.old.counts }
         ensures log { self.new.log ≡ self.old.log }
         ensures undoable { StaysUndoable self.old self.new }
@@ -230,6 +235,7 @@ impl<'a> ExecState<'a> {
             (Enters (sum_address op.now (registers_of self.now.lane.registers) / 2 * 2)) at
             self.now.lane self.now.local self.now.lane self.now.local (Some going.new.at) }
         ensures low { result ≡ true → going.new.at < 2 ^ 32 }
+        ensures inside { result ≡ true → going.new.at < length image.now }
         ensures none { result ≡ false → going.new ≡ going.old }
     {
         let original = self.sum_by(op) / 2 * 2;
@@ -254,12 +260,13 @@ impl<'a> ExecState<'a> {
         ensures tried { IsTried result
             (StepsBy image.now op.now going.old self.now going.new self.now)
             going.old self.now going.new self.now }
+        ensures inside { result ≡ true → going.new.at < length image.now }
     {
         self.enter(1, op, image, going)
     }
 
     /// A branch.
-    #[inline(always)]
+    #[inline]
     pub(crate) fn branch(&self, c: Cond, op: &MicroOp, going: &mut Going) -> bool
         requires room { 0 < going.old.left }
         requires low { going.old.at ≤ most_words }
@@ -268,6 +275,8 @@ impl<'a> ExecState<'a> {
         ensures tried { (image : List Cell) → IsTried result
             (StepsBy image op.now going.old self.now going.new self.now)
             going.old self.now going.new self.now }
+        ensures inside { (words : ℕ) → going.old.at + 1 < words → op.now.imm < words
+            → going.new.at < words }
     {
         if self.holds(c, op) {
             going.to(1, op.imm as usize);
@@ -278,7 +287,7 @@ impl<'a> ExecState<'a> {
     }
 
     /// A load, where it is aligned.
-    #[inline(always)]
+    #[inline]
     pub(crate) fn load_by(&mut self, kind: LoadKind, op: &MicroOp, going: &mut Going) -> bool
         requires room { 0 < going.old.left }
         requires low { going.old.at ≤ most_words }
@@ -287,6 +296,7 @@ impl<'a> ExecState<'a> {
         ensures tried { (image : List Cell) → IsTried result
             (StepsBy image op.now going.old self.old going.new self.new)
             going.old self.old going.new self.new }
+        ensures next { result ≡ true → going.new.at ≡ going.old.at + 1 }
         ensures counts { self.new.counts ≡ self.old.counts }
         ensures log { self.new.log ≡ self.old.log }
         ensures undoable { StaysUndoable self.old self.new }
@@ -332,7 +342,7 @@ impl<'a> ExecState<'a> {
     }
 
     /// A store, where it is aligned.
-    #[inline(always)]
+    #[inline]
     pub(crate) fn store_by(&mut self, width: Width, op: &MicroOp, going: &mut Going) -> bool
         requires room { 0 < going.old.left }
         requires low { going.old.at ≤ most_words }
@@ -341,6 +351,7 @@ impl<'a> ExecState<'a> {
         ensures tried { (image : List Cell) → IsTried result
             (StepsBy image op.now going.old self.old going.new self.new)
             going.old self.old going.new self.new }
+        ensures next { result ≡ true → going.new.at ≡ going.old.at + 1 }
         ensures counts { self.new.counts ≡ self.old.counts }
         ensures log { result ≡ false → self.new.log ≡ self.old.log }
         ensures undoable { StaysUndoable self.old self.new }
@@ -362,7 +373,7 @@ impl<'a> ExecState<'a> {
     }
 
     /// Stores wherever the address lies, and says whether it does.
-    #[inline(always)]
+    #[inline(never)]
     fn store_far(&mut self, width: Width, op: &MicroOp) -> bool
         ensures aligned { result ≡ is_aligned width
             (sum_address op.now (registers_of self.old.lane.registers)) }
@@ -423,7 +434,7 @@ impl<'a> ExecState<'a> {
 
     /// What a load from an address gives where its line may be read, whichever line it is. Each
     /// line of the window may be.
-    #[inline(always)]
+    #[inline(never)]
     fn value_readable(&self, kind: LoadKind, address: u32) -> Option<u32>
         ensures value { IfSome result (Gives self.now kind address) }
         ensures readable { IfSome result (λ value.
@@ -532,7 +543,7 @@ impl<'a> ExecState<'a> {
 
     /// Stores at an address where its line may be written, whichever line it is. Each line of the
     /// window may be.
-    #[inline(always)]
+    #[inline(never)]
     fn put_far(&mut self, width: Width, address: u32, value: u32) -> bool
         ensures stores { IsStoredOr result (IsStored self.old width address value self.new)
             self.old self.new }

@@ -31,7 +31,7 @@ use rv32_program::addresses::STATE_TABLE;
 
 impl<'a> ExecState<'a> {
     /// A branch past a jump, and that jump, behind so many words that change nothing.
-    #[inline(always)]
+    #[inline]
     pub(crate) fn over(&self, c: Cond, behind: usize, micros: &[MicroOp], going: &mut Going) -> bool
         requires room { behind + 2 ≤ going.old.left }
         requires low { going.old.at ≤ most_words }
@@ -39,6 +39,7 @@ impl<'a> ExecState<'a> {
         requires polls { (i : ℕ) → i < behind → IsPolled micros.now (going.old.at + i) }
         requires there { IsOver micros.now (going.old.at + behind) (branch_kind c) }
         ensures strides { IsStriddenBy micros.now result going.old self.now going.new self.now }
+        ensures inside { going.new.at < length micros.now }
         ensures done { result ≡ true }
     {
         let first = going.at + behind;
@@ -52,8 +53,8 @@ impl<'a> ExecState<'a> {
     }
 
     /// An operation on a register and the immediate, and the sum behind it.
-    #[inline(always)]
-    pub(crate) fn by_immediate_then_add(
+    #[inline]
+    pub(crate) fn imm_then_add(
         &mut self,
         o: Op,
         registers: bool,
@@ -68,6 +69,7 @@ impl<'a> ExecState<'a> {
             ≡ micro.by_immediate o op.now (registers_of self.old.lane.registers) }
         requires sum { IsWord micros.now (going.old.at + 1) (add_kind registers) }
         ensures strides { IsStriddenBy micros.now result going.old self.old going.new self.new }
+        ensures inside { going.new.at < length micros.now }
         ensures counts { self.new.counts ≡ self.old.counts }
         ensures undoable { StaysUndoable self.old self.new }
     {
@@ -77,8 +79,8 @@ impl<'a> ExecState<'a> {
     }
 
     /// An operation on two registers, and the sum behind it.
-    #[inline(always)]
-    pub(crate) fn by_registers_then_add(
+    #[inline]
+    pub(crate) fn registers_then_add(
         &mut self,
         o: Op,
         registers: bool,
@@ -93,6 +95,7 @@ impl<'a> ExecState<'a> {
             ≡ micro.by_registers o op.now (registers_of self.old.lane.registers) }
         requires sum { IsWord micros.now (going.old.at + 1) (add_kind registers) }
         ensures strides { IsStriddenBy micros.now result going.old self.old going.new self.new }
+        ensures inside { going.new.at < length micros.now }
         ensures counts { self.new.counts ≡ self.old.counts }
         ensures undoable { StaysUndoable self.old self.new }
     {
@@ -103,8 +106,8 @@ impl<'a> ExecState<'a> {
 
     /// A sum, and behind it a branch past a jump, and that jump, behind so many words that change
     /// nothing.
-    #[inline(always)]
-    pub(crate) fn add_then_over(
+    #[inline]
+    pub(crate) fn add_over(
         &mut self,
         registers: bool,
         c: Cond,
@@ -121,6 +124,7 @@ impl<'a> ExecState<'a> {
         requires polls { (i : ℕ) → i < behind → IsPolled micros.now (going.old.at + 1 + i) }
         requires there { IsOver micros.now (going.old.at + 1 + behind) (branch_kind c) }
         ensures strides { IsStriddenBy micros.now result going.old self.old going.new self.new }
+        ensures inside { going.new.at < length micros.now }
         ensures counts { self.new.counts ≡ self.old.counts }
         ensures undoable { StaysUndoable self.old self.new }
     {
@@ -129,18 +133,19 @@ impl<'a> ExecState<'a> {
     }
 
     /// A poll and a jump.
-    #[inline(always)]
+    #[inline]
     pub(crate) fn poll_jump(&self, micros: &[MicroOp], going: &mut Going) -> bool
         requires room { 18 ≤ going.old.left }
         requires poll { IsPolled micros.now going.old.at }
         requires there { IsJump micros.now (going.old.at + 1) }
         ensures strides { IsStriddenBy micros.now result going.old self.now going.new self.now }
+        ensures inside { going.new.at < length micros.now }
     {
         self.jump(2, &micros[going.at + 1], going)
     }
 
     /// A poll and an indirect jump.
-    #[inline(always)]
+    #[inline]
     pub(crate) fn poll_enter(&self, image: &Image, micros: &[MicroOp], going: &mut Going) -> bool
         requires room { 18 ≤ going.old.left }
         requires few { length image.now ≤ most_words }
@@ -150,17 +155,19 @@ impl<'a> ExecState<'a> {
         ensures tried { IsTried result
             (StridesBy image.now going.old self.now going.new self.now)
             going.old self.now going.new self.now }
+        ensures inside { result ≡ true → going.new.at < length image.now }
     {
         self.enter(2, &micros[going.at + 1], image, going)
     }
 
     /// Two words that put a number into a register.
-    #[inline(always)]
+    #[inline]
     pub(crate) fn number(&mut self, micros: &[MicroOp], going: &mut Going) -> bool
         requires room { 18 ≤ going.old.left }
         requires low { going.old.at < most_words }
         requires there { IsNumber micros.now going.old.at }
         ensures strides { IsStriddenBy micros.now result going.old self.old going.new self.new }
+        ensures inside { going.new.at < length micros.now }
         ensures counts { self.new.counts ≡ self.old.counts }
         ensures undoable { StaysUndoable self.old self.new }
     {
@@ -170,12 +177,13 @@ impl<'a> ExecState<'a> {
     }
 
     /// The two words that put a number into a register, and a jump.
-    #[inline(always)]
+    #[inline]
     pub(crate) fn far_call(&mut self, micros: &[MicroOp], going: &mut Going) -> bool
         requires room { 18 ≤ going.old.left }
         requires there { IsNumber micros.now going.old.at }
         requires jump { IsJump micros.now (going.old.at + 2) }
         ensures strides { IsStriddenBy micros.now result going.old self.old going.new self.new }
+        ensures inside { going.new.at < length micros.now }
         ensures counts { self.new.counts ≡ self.old.counts }
         ensures undoable { StaysUndoable self.old self.new }
     {
@@ -202,7 +210,7 @@ impl<'a> ExecState<'a> {
 
     /// A load whose line's state is tested, with so many registers spilled.
     #[tactic(auto, using(crate::proofs::UndoLogLemmas::undoable_same))]
-    #[inline(always)]
+    #[inline]
     pub(crate) fn read(
         &mut self,
         kind: LoadKind,
@@ -215,6 +223,7 @@ impl<'a> ExecState<'a> {
         requires few { spilled ≤ 2 }
         requires there { IsRead micros.now going.old.at spilled (kind_of_load kind) }
         ensures strides { IsStriddenBy micros.now result going.old self.old going.new self.new }
+        ensures inside { result ≡ true → going.new.at < length micros.now }
         ensures counts { self.new.counts ≡ self.old.counts }
         ensures undoable { StaysUndoable self.old self.new }
     {
@@ -232,7 +241,7 @@ impl<'a> ExecState<'a> {
     }
 
     /// A store whose line's state is tested, with so many registers spilled.
-    #[inline(always)]
+    #[inline]
     pub(crate) fn write(
         &mut self,
         width: Width,
@@ -245,6 +254,7 @@ impl<'a> ExecState<'a> {
         requires few { spilled ≤ 2 }
         requires there { IsWrite micros.now going.old.at spilled (store_kind width) }
         ensures strides { IsStriddenBy micros.now result going.old self.old going.new self.new }
+        ensures inside { result ≡ true → going.new.at < length micros.now }
         ensures counts { self.new.counts ≡ self.old.counts }
         ensures undoable { StaysUndoable self.old self.new }
     {
@@ -266,13 +276,14 @@ impl<'a> ExecState<'a> {
 
     /// A load that looks at its value, with so many registers spilled.
     #[tactic(auto, using(crate::proofs::UndoLogLemmas::undoable_same))]
-    #[inline(always)]
+    #[inline]
     pub(crate) fn flag(&mut self, spilled: usize, micros: &[MicroOp], going: &mut Going) -> bool
         requires room { 18 ≤ going.old.left }
         requires low { going.old.at < most_words }
         requires few { spilled ≤ 1 }
         requires there { IsFlagged micros.now going.old.at spilled }
         ensures strides { IsStriddenBy micros.now result going.old self.old going.new self.new }
+        ensures inside { result ≡ true → going.new.at < length micros.now }
         ensures counts { self.new.counts ≡ self.old.counts }
         ensures undoable { StaysUndoable self.old self.new }
     {
@@ -302,6 +313,7 @@ impl<'a> ExecState<'a> {
         requires few { spilled ≤ 3 }
         requires there { IsReadHead micros.now going.old.at spilled }
         ensures strides { IsStriddenBy micros.now result going.old self.old going.new self.new }
+        ensures inside { result ≡ true → going.new.at < length micros.now }
         ensures counts { self.new.counts ≡ self.old.counts }
         ensures undoable { StaysUndoable self.old self.new }
     {
@@ -326,6 +338,7 @@ impl<'a> ExecState<'a> {
         requires few { spilled ≤ 3 }
         requires there { IsWriteHead micros.now going.old.at spilled }
         ensures strides { IsStriddenBy micros.now result going.old self.old going.new self.new }
+        ensures inside { result ≡ true → going.new.at < length micros.now }
         ensures counts { self.new.counts ≡ self.old.counts }
         ensures undoable { StaysUndoable self.old self.new }
     {
@@ -340,10 +353,11 @@ impl<'a> ExecState<'a> {
     /// Tests that these bits of the states of both lines of a batch are clear, and leaves the
     /// scratch registers as its head does.
     #[tactic(auto, using(crate::proofs::UndoLogLemmas::undoable_same))]
-    #[inline(always)]
+    #[inline]
     fn head(&mut self, bits: u8, spilled: usize, micros: &[MicroOp], going: &Going) -> bool
         requires few { spilled ≤ 3 }
         requires there { IsHead micros.now going.now.at spilled }
+        requires next { going.now.at + spilled + 6 < length micros.now }
         ensures lane { result ≡ true → (there : IsHead micros.now going.now.at spilled)
             → (at : ℕ) → lane_of self.new.lane at ≡ left_by_head spilled there.x.s there.x.t
             there.u (state_at self.old there.x.base there.high) (lane_of self.old.lane at) }

@@ -1,15 +1,17 @@
 //! Words in a row, by strides: one `match` for each, be it a word, a whole sequence or a pair.
 
 ghost use Rattle.std.specs.Prelude.{◌≡◌, ◌+◌, ◌-◌, ◌^◌, ◌<◌, ◌≤◌, ℕ, false, None, length};
-ghost use Rattle.std.specs.Prelude.{IfSome, true};
+ghost use Rattle.std.specs.Prelude.{true};
 ghost use Rattle.node_memory.specs.rv32_step.Registers.{registers_of};
 ghost use Rattle.node_memory.specs.micro_op.Micro.{meaning_of};
 ghost use Rattle.node_memory.specs.jump_map.Image.{image_base, most_words};
-ghost use Rattle.node_memory.specs.jump_map.Strides.{HasStrides, IsPlain, IsStride, StandsAt};
+ghost use Rattle.node_memory.specs.jump_map.Micro.{AreMicrosOf};
+ghost use Rattle.node_memory.specs.jump_map.Strides.{HasStrides, IsInside, IsPlain, IsStride};
+ghost use Rattle.node_memory.specs.jump_map.Strides.{StandsAt};
 ghost use Rattle.node_words.specs.GoingOn.{BodyGoesOn, GoesFurther};
 ghost use Rattle.node_memory.specs.Shelf.{ground_of};
 ghost use Rattle.node_words.specs.Kept.{StepsTo};
-ghost use Rattle.node_words.specs.Strides.{IsTried, StepsBy};
+ghost use Rattle.node_words.specs.Strides.{IsTried, StepsBy, StridesBy};
 ghost use Rattle.node_words.specs.UndoLogs.{StaysUndoable};
 
 use crate::exec_state::ExecState;
@@ -73,366 +75,16 @@ impl<'a> ExecState<'a> {
             at: from as usize,
             left: budget,
         };
-        while going.left >= MOST_AT_ONCE {
+        let mut inside = going.at < strides.len();
+        while inside && going.left >= MOST_AT_ONCE {
             let here = going;
-            let done = match stride_at(micros, strides, here.at) {
-                Some(kind) => {
-                    let op = op_at(micros, here.at, kind);
-                    match kind {
-                        StrideKind::Slow => false,
-                        StrideKind::Nothing => self.nothing(op, &mut going),
-                        StrideKind::Constant => self.constant(op, &mut going),
-                        StrideKind::Jump => self.jump_by(op, &mut going),
-                        StrideKind::Link => self.link(op, &mut going),
-                        StrideKind::EnterBy => self.enter_by(op, image, &mut going),
-                        StrideKind::BranchEq => self.branch(Cond::Eq, op, &mut going),
-                        StrideKind::BranchNe => self.branch(Cond::Ne, op, &mut going),
-                        StrideKind::BranchLt => self.branch(Cond::Lt, op, &mut going),
-                        StrideKind::BranchGe => self.branch(Cond::Ge, op, &mut going),
-                        StrideKind::BranchLtu => self.branch(Cond::Ltu, op, &mut going),
-                        StrideKind::BranchGeu => self.branch(Cond::Geu, op, &mut going),
-                        StrideKind::LoadByte => self.load_by(LoadKind::Byte, op, &mut going),
-                        StrideKind::LoadHalf => self.load_by(LoadKind::Half, op, &mut going),
-                        StrideKind::LoadWord => self.load_by(LoadKind::Word, op, &mut going),
-                        StrideKind::LoadByteU => self.load_by(LoadKind::ByteU, op, &mut going),
-                        StrideKind::LoadHalfU => self.load_by(LoadKind::HalfU, op, &mut going),
-                        StrideKind::StoreByte => self.store_by(Width::Byte, op, &mut going),
-                        StrideKind::StoreHalf => self.store_by(Width::Half, op, &mut going),
-                        StrideKind::StoreWord => self.store_by(Width::Word, op, &mut going),
-                        StrideKind::AddImm => self.by_immediate(Op::Add, op, &mut going),
-                        StrideKind::SltImm => self.by_immediate(Op::Slt, op, &mut going),
-                        StrideKind::SltuImm => self.by_immediate(Op::Sltu, op, &mut going),
-                        StrideKind::XorImm => self.by_immediate(Op::Xor, op, &mut going),
-                        StrideKind::OrImm => self.by_immediate(Op::Or, op, &mut going),
-                        StrideKind::AndImm => self.by_immediate(Op::And, op, &mut going),
-                        StrideKind::SllImm => self.by_immediate(Op::Sll, op, &mut going),
-                        StrideKind::SrlImm => self.by_immediate(Op::Srl, op, &mut going),
-                        StrideKind::SraImm => self.by_immediate(Op::Sra, op, &mut going),
-                        StrideKind::Add => self.by_registers(Op::Add, op, &mut going),
-                        StrideKind::Sub => self.by_registers(Op::Sub, op, &mut going),
-                        StrideKind::Sll => self.by_registers(Op::Sll, op, &mut going),
-                        StrideKind::Slt => self.by_registers(Op::Slt, op, &mut going),
-                        StrideKind::Sltu => self.by_registers(Op::Sltu, op, &mut going),
-                        StrideKind::Xor => self.by_registers(Op::Xor, op, &mut going),
-                        StrideKind::Srl => self.by_registers(Op::Srl, op, &mut going),
-                        StrideKind::Sra => self.by_registers(Op::Sra, op, &mut going),
-                        StrideKind::Or => self.by_registers(Op::Or, op, &mut going),
-                        StrideKind::And => self.by_registers(Op::And, op, &mut going),
-                        StrideKind::Mul => self.by_registers(Op::Mul, op, &mut going),
-                        StrideKind::Mulh => self.by_slow(Op::Mulh, op, &mut going),
-                        StrideKind::Mulhsu => self.by_slow(Op::Mulhsu, op, &mut going),
-                        StrideKind::Mulhu => self.by_slow(Op::Mulhu, op, &mut going),
-                        StrideKind::Div => self.by_slow(Op::Div, op, &mut going),
-                        StrideKind::Divu => self.by_slow(Op::Divu, op, &mut going),
-                        StrideKind::Rem => self.by_slow(Op::Rem, op, &mut going),
-                        StrideKind::Remu => self.by_slow(Op::Remu, op, &mut going),
-                        StrideKind::OverEq => self.over(Cond::Eq, 0, micros, &mut going),
-                        StrideKind::OverNe => self.over(Cond::Ne, 0, micros, &mut going),
-                        StrideKind::OverLt => self.over(Cond::Lt, 0, micros, &mut going),
-                        StrideKind::OverGe => self.over(Cond::Ge, 0, micros, &mut going),
-                        StrideKind::OverLtu => self.over(Cond::Ltu, 0, micros, &mut going),
-                        StrideKind::OverGeu => self.over(Cond::Geu, 0, micros, &mut going),
-                        StrideKind::PollOverEq => self.over(Cond::Eq, 1, micros, &mut going),
-                        StrideKind::PollOverNe => self.over(Cond::Ne, 1, micros, &mut going),
-                        StrideKind::PollOverLt => self.over(Cond::Lt, 1, micros, &mut going),
-                        StrideKind::PollOverGe => self.over(Cond::Ge, 1, micros, &mut going),
-                        StrideKind::PollOverLtu => self.over(Cond::Ltu, 1, micros, &mut going),
-                        StrideKind::PollOverGeu => self.over(Cond::Geu, 1, micros, &mut going),
-                        StrideKind::PollJump => self.poll_jump(micros, &mut going),
-                        StrideKind::PollEnter => self.poll_enter(image, micros, &mut going),
-                        StrideKind::Number => self.number(micros, &mut going),
-                        StrideKind::Call => self.far_call(micros, &mut going),
-                        StrideKind::ReadByte0 => self.read(LoadKind::Byte, 0, micros, &mut going),
-                        StrideKind::ReadHalf0 => self.read(LoadKind::Half, 0, micros, &mut going),
-                        StrideKind::ReadWord0 => self.read(LoadKind::Word, 0, micros, &mut going),
-                        StrideKind::ReadByteU0 => self.read(LoadKind::ByteU, 0, micros, &mut going),
-                        StrideKind::ReadHalfU0 => self.read(LoadKind::HalfU, 0, micros, &mut going),
-                        StrideKind::ReadByte1 => self.read(LoadKind::Byte, 1, micros, &mut going),
-                        StrideKind::ReadHalf1 => self.read(LoadKind::Half, 1, micros, &mut going),
-                        StrideKind::ReadWord1 => self.read(LoadKind::Word, 1, micros, &mut going),
-                        StrideKind::ReadByteU1 => self.read(LoadKind::ByteU, 1, micros, &mut going),
-                        StrideKind::ReadHalfU1 => self.read(LoadKind::HalfU, 1, micros, &mut going),
-                        StrideKind::ReadByte2 => self.read(LoadKind::Byte, 2, micros, &mut going),
-                        StrideKind::ReadHalf2 => self.read(LoadKind::Half, 2, micros, &mut going),
-                        StrideKind::ReadWord2 => self.read(LoadKind::Word, 2, micros, &mut going),
-                        StrideKind::ReadByteU2 => self.read(LoadKind::ByteU, 2, micros, &mut going),
-                        StrideKind::ReadHalfU2 => self.read(LoadKind::HalfU, 2, micros, &mut going),
-                        StrideKind::WriteByte0 => self.write(Width::Byte, 0, micros, &mut going),
-                        StrideKind::WriteHalf0 => self.write(Width::Half, 0, micros, &mut going),
-                        StrideKind::WriteWord0 => self.write(Width::Word, 0, micros, &mut going),
-                        StrideKind::WriteByte1 => self.write(Width::Byte, 1, micros, &mut going),
-                        StrideKind::WriteHalf1 => self.write(Width::Half, 1, micros, &mut going),
-                        StrideKind::WriteWord1 => self.write(Width::Word, 1, micros, &mut going),
-                        StrideKind::WriteByte2 => self.write(Width::Byte, 2, micros, &mut going),
-                        StrideKind::WriteHalf2 => self.write(Width::Half, 2, micros, &mut going),
-                        StrideKind::WriteWord2 => self.write(Width::Word, 2, micros, &mut going),
-                        StrideKind::Flag0 => self.flag(0, micros, &mut going),
-                        StrideKind::Flag1 => self.flag(1, micros, &mut going),
-                        StrideKind::ReadHead0 => self.read_head(0, micros, &mut going),
-                        StrideKind::ReadHead1 => self.read_head(1, micros, &mut going),
-                        StrideKind::ReadHead2 => self.read_head(2, micros, &mut going),
-                        StrideKind::ReadHead3 => self.read_head(3, micros, &mut going),
-                        StrideKind::WriteHead0 => self.write_head(0, micros, &mut going),
-                        StrideKind::WriteHead1 => self.write_head(1, micros, &mut going),
-                        StrideKind::WriteHead2 => self.write_head(2, micros, &mut going),
-                        StrideKind::WriteHead3 => self.write_head(3, micros, &mut going),
-                        StrideKind::AddImmThenAddImm => self.by_immediate_then_add(
-                            Op::Add,
-                            false,
-                            op,
-                            micros,
-                            &mut going,
-                        ),
-                        StrideKind::AddImmThenAdd => self.by_immediate_then_add(
-                            Op::Add,
-                            true,
-                            op,
-                            micros,
-                            &mut going,
-                        ),
-                        StrideKind::AddThenAddImm => self.by_registers_then_add(
-                            Op::Add,
-                            false,
-                            op,
-                            micros,
-                            &mut going,
-                        ),
-                        StrideKind::AddThenAdd => self.by_registers_then_add(
-                            Op::Add,
-                            true,
-                            op,
-                            micros,
-                            &mut going,
-                        ),
-                        StrideKind::SllImmThenAddImm => self.by_immediate_then_add(
-                            Op::Sll,
-                            false,
-                            op,
-                            micros,
-                            &mut going,
-                        ),
-                        StrideKind::SllImmThenAdd => self.by_immediate_then_add(
-                            Op::Sll,
-                            true,
-                            op,
-                            micros,
-                            &mut going,
-                        ),
-                        StrideKind::MulThenAddImm => self.by_registers_then_add(
-                            Op::Mul,
-                            false,
-                            op,
-                            micros,
-                            &mut going,
-                        ),
-                        StrideKind::MulThenAdd => self.by_registers_then_add(
-                            Op::Mul,
-                            true,
-                            op,
-                            micros,
-                            &mut going,
-                        ),
-                        StrideKind::AddImmThenOverEq => self.add_then_over(
-                            false,
-                            Cond::Eq,
-                            0,
-                            op,
-                            micros,
-                            &mut going,
-                        ),
-                        StrideKind::AddImmThenOverNe => self.add_then_over(
-                            false,
-                            Cond::Ne,
-                            0,
-                            op,
-                            micros,
-                            &mut going,
-                        ),
-                        StrideKind::AddImmThenOverLt => self.add_then_over(
-                            false,
-                            Cond::Lt,
-                            0,
-                            op,
-                            micros,
-                            &mut going,
-                        ),
-                        StrideKind::AddImmThenOverGe => self.add_then_over(
-                            false,
-                            Cond::Ge,
-                            0,
-                            op,
-                            micros,
-                            &mut going,
-                        ),
-                        StrideKind::AddImmThenOverLtu => self.add_then_over(
-                            false,
-                            Cond::Ltu,
-                            0,
-                            op,
-                            micros,
-                            &mut going,
-                        ),
-                        StrideKind::AddImmThenOverGeu => self.add_then_over(
-                            false,
-                            Cond::Geu,
-                            0,
-                            op,
-                            micros,
-                            &mut going,
-                        ),
-                        StrideKind::AddImmThenPollOverEq => self.add_then_over(
-                            false,
-                            Cond::Eq,
-                            1,
-                            op,
-                            micros,
-                            &mut going,
-                        ),
-                        StrideKind::AddImmThenPollOverNe => self.add_then_over(
-                            false,
-                            Cond::Ne,
-                            1,
-                            op,
-                            micros,
-                            &mut going,
-                        ),
-                        StrideKind::AddImmThenPollOverLt => self.add_then_over(
-                            false,
-                            Cond::Lt,
-                            1,
-                            op,
-                            micros,
-                            &mut going,
-                        ),
-                        StrideKind::AddImmThenPollOverGe => self.add_then_over(
-                            false,
-                            Cond::Ge,
-                            1,
-                            op,
-                            micros,
-                            &mut going,
-                        ),
-                        StrideKind::AddImmThenPollOverLtu => self.add_then_over(
-                            false,
-                            Cond::Ltu,
-                            1,
-                            op,
-                            micros,
-                            &mut going,
-                        ),
-                        StrideKind::AddImmThenPollOverGeu => self.add_then_over(
-                            false,
-                            Cond::Geu,
-                            1,
-                            op,
-                            micros,
-                            &mut going,
-                        ),
-                        StrideKind::AddThenOverEq => self.add_then_over(
-                            true,
-                            Cond::Eq,
-                            0,
-                            op,
-                            micros,
-                            &mut going,
-                        ),
-                        StrideKind::AddThenOverNe => self.add_then_over(
-                            true,
-                            Cond::Ne,
-                            0,
-                            op,
-                            micros,
-                            &mut going,
-                        ),
-                        StrideKind::AddThenOverLt => self.add_then_over(
-                            true,
-                            Cond::Lt,
-                            0,
-                            op,
-                            micros,
-                            &mut going,
-                        ),
-                        StrideKind::AddThenOverGe => self.add_then_over(
-                            true,
-                            Cond::Ge,
-                            0,
-                            op,
-                            micros,
-                            &mut going,
-                        ),
-                        StrideKind::AddThenOverLtu => self.add_then_over(
-                            true,
-                            Cond::Ltu,
-                            0,
-                            op,
-                            micros,
-                            &mut going,
-                        ),
-                        StrideKind::AddThenOverGeu => self.add_then_over(
-                            true,
-                            Cond::Geu,
-                            0,
-                            op,
-                            micros,
-                            &mut going,
-                        ),
-                        StrideKind::AddThenPollOverEq => self.add_then_over(
-                            true,
-                            Cond::Eq,
-                            1,
-                            op,
-                            micros,
-                            &mut going,
-                        ),
-                        StrideKind::AddThenPollOverNe => self.add_then_over(
-                            true,
-                            Cond::Ne,
-                            1,
-                            op,
-                            micros,
-                            &mut going,
-                        ),
-                        StrideKind::AddThenPollOverLt => self.add_then_over(
-                            true,
-                            Cond::Lt,
-                            1,
-                            op,
-                            micros,
-                            &mut going,
-                        ),
-                        StrideKind::AddThenPollOverGe => self.add_then_over(
-                            true,
-                            Cond::Ge,
-                            1,
-                            op,
-                            micros,
-                            &mut going,
-                        ),
-                        StrideKind::AddThenPollOverLtu => self.add_then_over(
-                            true,
-                            Cond::Ltu,
-                            1,
-                            op,
-                            micros,
-                            &mut going,
-                        ),
-                        StrideKind::AddThenPollOverGeu => self.add_then_over(
-                            true,
-                            Cond::Geu,
-                            1,
-                            op,
-                            micros,
-                            &mut going,
-                        ),
-                    }
-                }
-                None => false,
-            };
-            if !done {
+            let kind = stride_at(micros, strides, here.at);
+            if !self.stride(kind, image, micros, &mut going) {
                 match self.step_apart(image, here.at as u32) {
                     Some(next) => {
                         going = here;
                         going.to(1, next as usize);
+                        inside = going.at < strides.len();
                     }
                     None => {
                         return Progress {
@@ -447,6 +99,204 @@ impl<'a> ExecState<'a> {
         Progress {
             at: last.at,
             words: (budget - going.left) as u64 + last.words,
+        }
+    }
+
+    /// Executes the stride from the next word on, which is of this kind. Says whether it does; else
+    /// nothing changes. Where it does, a word of the image follows.
+    #[tactic(auto, using(crate::proofs::UndoLogLemmas::undoable_same))]
+    #[inline(always)]
+    pub(crate) fn stride(
+        &mut self,
+        kind: StrideKind,
+        image: &Image,
+        micros: &[MicroOp],
+        going: &mut Going,
+    ) -> bool
+        requires few { length image.now ≤ most_words }
+        requires micros { AreMicrosOf image.now micros.now }
+        requires room { 18 ≤ going.old.left }
+        requires is { IsStride micros.now going.old.at kind }
+        ensures tried { IsTried result
+            (StridesBy image.now going.old self.old going.new self.new)
+            going.old self.old going.new self.new }
+        ensures inside { result ≡ true → going.new.at < length micros.now }
+        ensures counts { self.new.counts ≡ self.old.counts }
+        ensures undoable { StaysUndoable self.old self.new }
+    {
+        let op = op_at(micros, going.at, kind);
+        match kind {
+            StrideKind::Slow => false,
+            StrideKind::Nothing => self.nothing(op, going),
+            StrideKind::Constant => self.constant(op, going),
+            StrideKind::Jump => self.jump_by(op, going),
+            StrideKind::Link => self.link(op, going),
+            StrideKind::EnterBy => self.enter_by(op, image, going),
+            StrideKind::BranchEq => self.branch(Cond::Eq, op, going),
+            StrideKind::BranchNe => self.branch(Cond::Ne, op, going),
+            StrideKind::BranchLt => self.branch(Cond::Lt, op, going),
+            StrideKind::BranchGe => self.branch(Cond::Ge, op, going),
+            StrideKind::BranchLtu => self.branch(Cond::Ltu, op, going),
+            StrideKind::BranchGeu => self.branch(Cond::Geu, op, going),
+            StrideKind::LoadByte => self.load_by(LoadKind::Byte, op, going),
+            StrideKind::LoadHalf => self.load_by(LoadKind::Half, op, going),
+            StrideKind::LoadWord => self.load_by(LoadKind::Word, op, going),
+            StrideKind::LoadByteU => self.load_by(LoadKind::ByteU, op, going),
+            StrideKind::LoadHalfU => self.load_by(LoadKind::HalfU, op, going),
+            StrideKind::StoreByte => self.store_by(Width::Byte, op, going),
+            StrideKind::StoreHalf => self.store_by(Width::Half, op, going),
+            StrideKind::StoreWord => self.store_by(Width::Word, op, going),
+            StrideKind::AddImm => self.by_immediate(Op::Add, op, going),
+            StrideKind::SltImm => self.by_immediate(Op::Slt, op, going),
+            StrideKind::SltuImm => self.by_immediate(Op::Sltu, op, going),
+            StrideKind::XorImm => self.by_immediate(Op::Xor, op, going),
+            StrideKind::OrImm => self.by_immediate(Op::Or, op, going),
+            StrideKind::AndImm => self.by_immediate(Op::And, op, going),
+            StrideKind::SllImm => self.by_immediate(Op::Sll, op, going),
+            StrideKind::SrlImm => self.by_immediate(Op::Srl, op, going),
+            StrideKind::SraImm => self.by_immediate(Op::Sra, op, going),
+            StrideKind::Add => self.by_registers(Op::Add, op, going),
+            StrideKind::Sub => self.by_registers(Op::Sub, op, going),
+            StrideKind::Sll => self.by_registers(Op::Sll, op, going),
+            StrideKind::Slt => self.by_registers(Op::Slt, op, going),
+            StrideKind::Sltu => self.by_registers(Op::Sltu, op, going),
+            StrideKind::Xor => self.by_registers(Op::Xor, op, going),
+            StrideKind::Srl => self.by_registers(Op::Srl, op, going),
+            StrideKind::Sra => self.by_registers(Op::Sra, op, going),
+            StrideKind::Or => self.by_registers(Op::Or, op, going),
+            StrideKind::And => self.by_registers(Op::And, op, going),
+            StrideKind::Mul => self.by_registers(Op::Mul, op, going),
+            StrideKind::Mulh => self.by_slow(Op::Mulh, op, going),
+            StrideKind::Mulhsu => self.by_slow(Op::Mulhsu, op, going),
+            StrideKind::Mulhu => self.by_slow(Op::Mulhu, op, going),
+            StrideKind::Div => self.by_slow(Op::Div, op, going),
+            StrideKind::Divu => self.by_slow(Op::Divu, op, going),
+            StrideKind::Rem => self.by_slow(Op::Rem, op, going),
+            StrideKind::Remu => self.by_slow(Op::Remu, op, going),
+            StrideKind::OverEq => self.over(Cond::Eq, 0, micros, going),
+            StrideKind::OverNe => self.over(Cond::Ne, 0, micros, going),
+            StrideKind::OverLt => self.over(Cond::Lt, 0, micros, going),
+            StrideKind::OverGe => self.over(Cond::Ge, 0, micros, going),
+            StrideKind::OverLtu => self.over(Cond::Ltu, 0, micros, going),
+            StrideKind::OverGeu => self.over(Cond::Geu, 0, micros, going),
+            StrideKind::PollOverEq => self.over(Cond::Eq, 1, micros, going),
+            StrideKind::PollOverNe => self.over(Cond::Ne, 1, micros, going),
+            StrideKind::PollOverLt => self.over(Cond::Lt, 1, micros, going),
+            StrideKind::PollOverGe => self.over(Cond::Ge, 1, micros, going),
+            StrideKind::PollOverLtu => self.over(Cond::Ltu, 1, micros, going),
+            StrideKind::PollOverGeu => self.over(Cond::Geu, 1, micros, going),
+            StrideKind::PollJump => self.poll_jump(micros, going),
+            StrideKind::PollEnter => self.poll_enter(image, micros, going),
+            StrideKind::Number => self.number(micros, going),
+            StrideKind::Call => self.far_call(micros, going),
+            StrideKind::ReadByte0 => self.read(LoadKind::Byte, 0, micros, going),
+            StrideKind::ReadHalf0 => self.read(LoadKind::Half, 0, micros, going),
+            StrideKind::ReadWord0 => self.read(LoadKind::Word, 0, micros, going),
+            StrideKind::ReadByteU0 => self.read(LoadKind::ByteU, 0, micros, going),
+            StrideKind::ReadHalfU0 => self.read(LoadKind::HalfU, 0, micros, going),
+            StrideKind::ReadByte1 => self.read(LoadKind::Byte, 1, micros, going),
+            StrideKind::ReadHalf1 => self.read(LoadKind::Half, 1, micros, going),
+            StrideKind::ReadWord1 => self.read(LoadKind::Word, 1, micros, going),
+            StrideKind::ReadByteU1 => self.read(LoadKind::ByteU, 1, micros, going),
+            StrideKind::ReadHalfU1 => self.read(LoadKind::HalfU, 1, micros, going),
+            StrideKind::ReadByte2 => self.read(LoadKind::Byte, 2, micros, going),
+            StrideKind::ReadHalf2 => self.read(LoadKind::Half, 2, micros, going),
+            StrideKind::ReadWord2 => self.read(LoadKind::Word, 2, micros, going),
+            StrideKind::ReadByteU2 => self.read(LoadKind::ByteU, 2, micros, going),
+            StrideKind::ReadHalfU2 => self.read(LoadKind::HalfU, 2, micros, going),
+            StrideKind::WriteByte0 => self.write(Width::Byte, 0, micros, going),
+            StrideKind::WriteHalf0 => self.write(Width::Half, 0, micros, going),
+            StrideKind::WriteWord0 => self.write(Width::Word, 0, micros, going),
+            StrideKind::WriteByte1 => self.write(Width::Byte, 1, micros, going),
+            StrideKind::WriteHalf1 => self.write(Width::Half, 1, micros, going),
+            StrideKind::WriteWord1 => self.write(Width::Word, 1, micros, going),
+            StrideKind::WriteByte2 => self.write(Width::Byte, 2, micros, going),
+            StrideKind::WriteHalf2 => self.write(Width::Half, 2, micros, going),
+            StrideKind::WriteWord2 => self.write(Width::Word, 2, micros, going),
+            StrideKind::Flag0 => self.flag(0, micros, going),
+            StrideKind::Flag1 => self.flag(1, micros, going),
+            StrideKind::ReadHead0 => self.read_head(0, micros, going),
+            StrideKind::ReadHead1 => self.read_head(1, micros, going),
+            StrideKind::ReadHead2 => self.read_head(2, micros, going),
+            StrideKind::ReadHead3 => self.read_head(3, micros, going),
+            StrideKind::WriteHead0 => self.write_head(0, micros, going),
+            StrideKind::WriteHead1 => self.write_head(1, micros, going),
+            StrideKind::WriteHead2 => self.write_head(2, micros, going),
+            StrideKind::WriteHead3 => self.write_head(3, micros, going),
+            StrideKind::AddImmThenAddImm => self.imm_then_add(Op::Add, false, op, micros, going),
+            StrideKind::AddImmThenAdd => self.imm_then_add(Op::Add, true, op, micros, going),
+            StrideKind::AddThenAddImm => self.registers_then_add(Op::Add, false, op, micros, going),
+            StrideKind::AddThenAdd => self.registers_then_add(Op::Add, true, op, micros, going),
+            StrideKind::SllImmThenAddImm => self.imm_then_add(Op::Sll, false, op, micros, going),
+            StrideKind::SllImmThenAdd => self.imm_then_add(Op::Sll, true, op, micros, going),
+            StrideKind::MulThenAddImm => self.registers_then_add(Op::Mul, false, op, micros, going),
+            StrideKind::MulThenAdd => self.registers_then_add(Op::Mul, true, op, micros, going),
+            StrideKind::AddImmThenOverEq => self.add_over(false, Cond::Eq, 0, op, micros, going),
+            StrideKind::AddImmThenOverNe => self.add_over(false, Cond::Ne, 0, op, micros, going),
+            StrideKind::AddImmThenOverLt => self.add_over(false, Cond::Lt, 0, op, micros, going),
+            StrideKind::AddImmThenOverGe => self.add_over(false, Cond::Ge, 0, op, micros, going),
+            StrideKind::AddImmThenOverLtu => self.add_over(false, Cond::Ltu, 0, op, micros, going),
+            StrideKind::AddImmThenOverGeu => self.add_over(false, Cond::Geu, 0, op, micros, going),
+            StrideKind::AddImmThenPollOverEq => self.add_over(
+                false,
+                Cond::Eq,
+                1,
+                op,
+                micros,
+                going,
+            ),
+            StrideKind::AddImmThenPollOverNe => self.add_over(
+                false,
+                Cond::Ne,
+                1,
+                op,
+                micros,
+                going,
+            ),
+            StrideKind::AddImmThenPollOverLt => self.add_over(
+                false,
+                Cond::Lt,
+                1,
+                op,
+                micros,
+                going,
+            ),
+            StrideKind::AddImmThenPollOverGe => self.add_over(
+                false,
+                Cond::Ge,
+                1,
+                op,
+                micros,
+                going,
+            ),
+            StrideKind::AddImmThenPollOverLtu => self.add_over(
+                false,
+                Cond::Ltu,
+                1,
+                op,
+                micros,
+                going,
+            ),
+            StrideKind::AddImmThenPollOverGeu => self.add_over(
+                false,
+                Cond::Geu,
+                1,
+                op,
+                micros,
+                going,
+            ),
+            StrideKind::AddThenOverEq => self.add_over(true, Cond::Eq, 0, op, micros, going),
+            StrideKind::AddThenOverNe => self.add_over(true, Cond::Ne, 0, op, micros, going),
+            StrideKind::AddThenOverLt => self.add_over(true, Cond::Lt, 0, op, micros, going),
+            StrideKind::AddThenOverGe => self.add_over(true, Cond::Ge, 0, op, micros, going),
+            StrideKind::AddThenOverLtu => self.add_over(true, Cond::Ltu, 0, op, micros, going),
+            StrideKind::AddThenOverGeu => self.add_over(true, Cond::Geu, 0, op, micros, going),
+            StrideKind::AddThenPollOverEq => self.add_over(true, Cond::Eq, 1, op, micros, going),
+            StrideKind::AddThenPollOverNe => self.add_over(true, Cond::Ne, 1, op, micros, going),
+            StrideKind::AddThenPollOverLt => self.add_over(true, Cond::Lt, 1, op, micros, going),
+            StrideKind::AddThenPollOverGe => self.add_over(true, Cond::Ge, 1, op, micros, going),
+            StrideKind::AddThenPollOverLtu => self.add_over(true, Cond::Ltu, 1, op, micros, going),
+            StrideKind::AddThenPollOverGeu => self.add_over(true, Cond::Geu, 1, op, micros, going),
         }
     }
 
@@ -512,6 +362,8 @@ impl<'a> ExecState<'a> {
         ensures tried { IsTried result
             (StepsBy image.now op.now going.old self.old going.new self.new)
             going.old self.old going.new self.new }
+        ensures inside { (words : ℕ) → length image.now ≤ words
+            → IsInside kind op.now going.old.at words → result ≡ true → going.new.at < words }
         ensures counts { self.new.counts ≡ self.old.counts }
         ensures log { result ≡ false → self.new.log ≡ self.old.log }
         ensures undoable { StaysUndoable self.old self.new }
@@ -569,16 +421,14 @@ impl<'a> ExecState<'a> {
     }
 }
 
-/// The kind of stride of the word of a number, where there is one.
+/// The kind of stride of the word of a number.
 #[inline(always)]
-fn stride_at(micros: &[MicroOp], strides: &[StrideKind], at: usize) -> Option<StrideKind>
-    requires { HasStrides micros.now strides.now }
-    ensures { IfSome result (IsStride micros.now at) }
+fn stride_at(micros: &[MicroOp], strides: &[StrideKind], at: usize) -> StrideKind
+    requires strides { HasStrides micros.now strides.now }
+    requires inside { at < length strides.now }
+    ensures { IsStride micros.now at result }
 {
-    match strides.get(at) {
-        Some(kind) => Some(*kind),
-        None => None,
-    }
+    strides[at]
 }
 
 /// The micro-op of a word that has a stride of this kind.
@@ -588,6 +438,7 @@ fn op_at<'m>(micros: &'m [MicroOp], at: usize, kind: StrideKind) -> &'m MicroOp
     requires there { IsStride micros.now at kind }
     ensures there { StandsAt micros.now at result.now }
     ensures plain { IsPlain kind result.now }
+    ensures inside { IsInside kind result.now at (length micros.now) }
     ensures low { at < most_words }
 {
     &micros[at]

@@ -15,5 +15,6 @@ returns-then-takes c =
       v_kept = (value.kept refl).1;
       keep = c.if-keeps.ensures refl;
       look = value.stand refl;
-      take = c.if-takes.ensures refl;
+      take = c.if-takes.ensures.back refl;
+      next = c.if-takes.ensures.next refl;
     })

@@ -15,7 +15,8 @@ returns-then-takes c =
       };
       test = stand_two c.args.micros.now (c.args.k + c.args.spilled + 10) c.mask.result (mask x.s) c.skip.result
           (skip x.s (c.args.k + c.args.spilled + 16)) c.mask.ensures c.skip.ensures (c.if-stands.ensures refl);
-      take = c.if-takes.ensures refl;
+      take = c.if-takes.ensures.back refl;
+      next = c.if-takes.ensures.next refl;
     })
 
 pub returns-then-takes-2 : goal.returns-then-takes-2
@@ -30,5 +31,6 @@ returns-then-takes-2 c =
       };
       test = stand_one c.args.micros.now (c.args.k + c.args.spilled + 10) c.skip-2.result
           (skip x.s (c.args.k + c.args.spilled + 15)) c.skip-2.ensures (c.if-stands-2.ensures refl);
-      take = c.if-takes-2.ensures refl;
+      take = c.if-takes-2.ensures.back refl;
+      next = c.if-takes-2.ensures.next refl;
     })

@@ -23,5 +23,6 @@ returns-then-takes c =
       };
       rd_s = (c.if-is_neither.ensures refl).0;
       rd_t = (c.if-is_neither.ensures refl).1;
-      take = c.if-takes.ensures refl;
+      take = c.if-takes.ensures.back refl;
+      next = c.if-takes.ensures.next refl;
     })

@@ -20,3 +20,9 @@ returns-in-Some-clause-steps c done at place =
     (ground_of b.local) (word_address c.to.new.self.at) b.lane b.local) (ap (λ x. x / 2 * 2) c.sum_by.ensures)
     (subst (λ (n : ℕ). Follows image (indirect place (lane_of b.lane (word_address at)) (local_of b.local) 0 original)
     (ground_of b.local) (word_address n) b.lane b.local) (sym c.to.ensures.at) follows)
+
+pub returns-in-Some-clause-inside : goal.returns-in-Some-clause-inside
+returns-in-Some-clause-inside c done =
+    let is = new_address c.args.image.now (c.sum_by.result / 2 * 2) c.in-Some.new (sym c.in-Some.ensures.value) in
+    let at = c.to.ensures.at in
+    omega (arith, is.1, is.2, at)

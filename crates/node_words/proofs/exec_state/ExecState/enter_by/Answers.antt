@@ -5,7 +5,7 @@ use Rattle.node_words.specs.Strides.{IsTried, StepsBy}
 use Rattle.node_words.proofs.exec_state.ExecState.enter_by.Goals as goal
 
 pub returns : goal.returns
-returns c = record { tried = by c.enter.result refl }
+returns c = record { tried = by c.enter.result refl; inside = c.enter.ensures.inside }
   where
     by : (r : Bool) → c.enter.result ≡ r
         → IsTried r (StepsBy c.args.image.now c.args.op.now c.args.going.now c.args.self.now c.enter.new.going c.args.self.now)

@@ -19,3 +19,11 @@ returns-clause-strides c image few are =
     (λ w. call_goes code from.at to.at ((there.upper.imm + there.lower.imm) % 2 ^ 32) there.upper.rd w b b' refl there refl
     refl c.requires.jump (c.jump.ensures.at ∙ ap (λ (m : MicroOp). m.imm) jump)
     (c.put_number.ensures.lane there.upper there.lower there.upper_there there.lower_there) c.put_number.ensures.local))
+
+pub returns-clause-inside : goal.returns-clause-inside
+returns-clause-inside c =
+    let there = c.requires.jump in
+    let jump = found_at c.args.micros.now (c.args.going.now.at + 2) _ there.jump c.index-micros-going.is there.there in
+    let at = c.jump.ensures.at ∙ ap (λ (m : MicroOp). m.imm) jump in
+    let inside = there.inside in
+    omega (arith, at, inside)

@@ -9,41 +9,10 @@ use Rattle.node_memory.specs.node_model.Node.{ProcessorState, set_register}
 use Rattle.node_words.specs.Kept.{lane_of}
 use Rattle.node_words.proofs.ReachLemmas.{Code, code_of}
 use Rattle.node_words.proofs.SequenceLemmas.{begins}
-use Rattle.node_words.proofs.WholeLemmas.{flag_goes, found_at, read_at, stands_below, stands_low, strides_by}
+use Rattle.node_words.proofs.WholeLemmas.{flag_goes, found_at, read_at, stands_low, strides_by}
 use Rattle.node_words.specs.declared.exec_state.ExecState.{ExecState}
 use Rattle.node_words.proofs.UndoLogLemmas.{undoable_both, undoable_mild}
 use Rattle.node_words.proofs.exec_state.ExecState.flag.Goals as goal
-
-pub offset_bounds-micros-first : goal.offset_bounds-micros-first
-offset_bounds-micros-first c =
-    let below = stands_below c.args.micros.now _ _ (c.requires.there.look 0 _ refl) in search rules
-
-pub bounds-micros-first : goal.bounds-micros-first
-bounds-micros-first c =
-    let below = stands_below c.args.micros.now _ _ (c.requires.there.look 0 _ refl) in search rules
-
-pub overflow_add-first-in-Some : goal.overflow_add-first-in-Some
-overflow_add-first-in-Some c =
-    let below = stands_below c.args.micros.now _ _ (c.requires.there.look 2 _ refl) in search rules
-
-pub offset_bounds-micros-first-in-Some : goal.offset_bounds-micros-first-in-Some
-offset_bounds-micros-first-in-Some c =
-    let below = stands_below c.args.micros.now _ _ (c.requires.there.look 2 _ refl) in search rules
-
-pub bounds-micros-first-in-Some : goal.bounds-micros-first-in-Some
-bounds-micros-first-in-Some c =
-    let below = stands_below c.args.micros.now _ _ (c.requires.there.look 2 _ refl) in search rules
-
-pub bounds-micros-first-in-Some-2 : goal.bounds-micros-first-in-Some-2
-bounds-micros-first-in-Some-2 c =
-    let below = stands_below c.args.micros.now _ _ (c.requires.there.look 2 _ refl) in search rules
-
-pub on-requires-clause-low : goal.on-requires-clause-low
-on-requires-clause-low c =
-    let below = stands_below c.args.micros.now _ _ (c.requires.there.look 2 _ refl) in
-    let fits : Fits w64 ((c.args.going.now.at + c.args.spilled + 2) * 8) = search rules in
-    let some = c.requires.few in
-    omega (arith, some, fits)
 
 pub returns-in-Some-clause-strides : goal.returns-in-Some-clause-strides
 returns-in-Some-clause-strides c image few are =

@@ -9,41 +9,9 @@ use Rattle.node_memory.specs.Shelf.{local_of}
 use Rattle.node_words.specs.Kept.{lane_of}
 use Rattle.node_words.specs.Strides.{left_by_head, left_one, state_at}
 use Rattle.node_words.proofs.SequenceLemmas.{begins}
-use Rattle.node_words.proofs.WholeLemmas.{found_at, read_at, stands_below}
+use Rattle.node_words.proofs.WholeLemmas.{found_at, read_at}
 use Rattle.node_words.proofs.UndoLogLemmas.{undoable_both}
 use Rattle.node_words.proofs.exec_state.ExecState.head.Goals as goal
-
-pub bounds-micros-first : goal.bounds-micros-first
-bounds-micros-first c =
-    let below = stands_below c.args.micros.now _ _ (c.requires.there.looks.low_look 0 _ refl) in search rules
-
-pub overflow_add-high : goal.overflow_add-high
-overflow_add-high c =
-    let below = stands_below c.args.micros.now _ _ (c.requires.there.looks.high_look 0 _ refl) in search rules
-
-pub offset_bounds-micros-first-2 : goal.offset_bounds-micros-first-2
-offset_bounds-micros-first-2 c =
-    let below = stands_below c.args.micros.now _ _ (c.requires.there.looks.high_look 0 _ refl) in search rules
-
-pub bounds-micros-first-2 : goal.bounds-micros-first-2
-bounds-micros-first-2 c =
-    let below = stands_below c.args.micros.now _ _ (c.requires.there.looks.high_look 0 _ refl) in search rules
-
-pub overflow_add-first-in-Some : goal.overflow_add-first-in-Some
-overflow_add-first-in-Some c =
-    let below = stands_below c.args.micros.now _ _ (c.requires.there.looks.low_look 1 _ refl) in search rules
-
-pub offset_bounds-micros-first-in-Some : goal.offset_bounds-micros-first-in-Some
-offset_bounds-micros-first-in-Some c =
-    let below = stands_below c.args.micros.now _ _ (c.requires.there.looks.low_look 1 _ refl) in search rules
-
-pub bounds-micros-first-in-Some : goal.bounds-micros-first-in-Some
-bounds-micros-first-in-Some c =
-    let below = stands_below c.args.micros.now _ _ (c.requires.there.looks.low_look 1 _ refl) in search rules
-
-pub bounds-micros-first-in-Some-2 : goal.bounds-micros-first-in-Some-2
-bounds-micros-first-in-Some-2 c =
-    let below = stands_below c.args.micros.now _ _ (c.requires.there.looks.low_look 1 _ refl) in search rules
 
 pub returns-in-Some-clause-lane : goal.returns-in-Some-clause-lane
 returns-in-Some-clause-lane c done there k =

@@ -12,4 +12,5 @@ returns c = record {
       let to = c.jump.new.going in
       subst (λ (r : Bool). IsTried r (StepsBy image op from b to b) from b to b) (sym c.jump.ensures.done)
       (jumps image op from to b c.requires.is c.requires.keeps_none c.jump.ensures.left c.jump.ensures.at c.jump.ensures.low);
+  to = c.jump.ensures.at;
 }

@@ -8,4 +8,5 @@ returns c = record {
       let b = c.args.self.now in
       steps_next image c.args.op.now Continues c.args.going.now c.on.new.self b b c.requires.means c.on.ensures.left
       c.on.ensures.at c.requires.low (continues b);
+  next = c.on.ensures.at;
 }

@@ -36,3 +36,12 @@ returns-else-holds-clause-strides c image few are =
     strides_by code (n + 2) c.args.going.now c.to.new.self b b c.to.ensures.left (omega arith) c.to.ensures.low
     (λ w. jump_behind code at c.to.new.self.at n w c.args.c b refl c.requires.few c.requires.polls there fails
     (c.to.ensures.at ∙ ap (λ (m : MicroOp). m.imm) jump))
+
+pub returns-else-holds-clause-inside : goal.returns-else-holds-clause-inside
+returns-else-holds-clause-inside c =
+    let there = c.requires.there.jump in
+    let is = read_at c.args.micros.now (c.args.going.now.at + c.args.behind + 1) c.index-micros-first-else-holds.result there.jump
+    there.there in
+    let at = c.to.ensures.at ∙ ap (λ (m : MicroOp). m.imm) is in
+    let inside = there.inside in
+    omega (arith, at, inside)

@@ -11,7 +11,7 @@ use Rattle.node_words.proofs.WholeLemmas.{found_at, poll_enter_goes, strides_by}
 use Rattle.node_words.proofs.exec_state.ExecState.poll_enter.Goals as goal
 
 pub returns : goal.returns
-returns c = record { tried = by c.enter.result refl }
+returns c = record { tried = by c.enter.result refl; inside = c.enter.ensures.inside }
   where
     b : ExecState
     b = c.args.self.now

@@ -18,4 +18,10 @@ returns c = record {
       (sym c.jump.ensures.done)
       (strides_by code 2 c.args.going.now to b b c.jump.ensures.left (omega arith) c.jump.ensures.low
       (λ w. poll_jump_goes code at to.at w b refl c.requires.poll there (c.jump.ensures.at ∙ ap (λ (m : MicroOp). m.imm) jump)));
+  inside =
+      let there = c.requires.there in
+      let jump = found_at c.args.micros.now (c.args.going.now.at + 1) _ there.jump c.index-micros-going.is there.there in
+      let at = c.jump.ensures.at ∙ ap (λ (m : MicroOp). m.imm) jump in
+      let inside = there.inside in
+      omega (arith, at, inside);
 }

@@ -10,7 +10,7 @@ pub returns-clause-lane : goal.returns-clause-lane
 returns-clause-lane c at =
     let l = lane_of c.args.self.now.lane at in
     let value = c.alu-value.ensures ∙ (λ t. alu c.args.o (c.get-a.ensures t) (c.get.ensures t)) in
-    (λ t. record l { registers = c.set.ensures t }) ∙ (λ t. set_register l c.args.op.now.rd (value t))
+    (λ t. record l { registers = c.set.ensures t }) ∙ (λ t. set_register l c.args.rd (value t))
 
 pub returns-clause-undoable : goal.returns-clause-undoable
 returns-clause-undoable c =

@@ -1,15 +1,8 @@
 use Rattle.std.proofs.Common.{rules, Fits, w64, ◌+◌, ◌*◌, refl, arith}
 use Rattle.node_memory.specs.jump_map.Strides.{skip}
 use Rattle.node_words.proofs.ReachLemmas.{Code, code_of}
-use Rattle.node_words.proofs.WholeLemmas.{read_head_goes, stands_below, stands_low, strides_by}
+use Rattle.node_words.proofs.WholeLemmas.{read_head_goes, stands_low, strides_by}
 use Rattle.node_words.proofs.exec_state.ExecState.read_head.Goals as goal
-
-pub on-requires-clause-low : goal.on-requires-clause-low
-on-requires-clause-low c =
-    let below = stands_below c.args.micros.now _ _ (c.requires.there.test 1 _ refl) in
-    let fits : Fits w64 ((c.args.going.now.at + c.args.spilled + 10 + 1) * 8) = search rules in
-    let some = c.requires.few in
-    omega (arith, some, fits)
 
 pub returns-then-head-clause-strides : goal.returns-then-head-clause-strides
 returns-then-head-clause-strides c image few are =

@@ -1,11 +1,12 @@
 use Rattle.std.proofs.Common.{arith}
-use Rattle.node_words.proofs.StepLemmas.{got_below, micro_step}
+use Rattle.std.proofs.lemmas.Option.{slice_get_within}
+use Rattle.node_words.proofs.StepLemmas.{micro_step}
 use Rattle.node_words.proofs.exec_state.ExecState.step_at.Goals as goal
 
 pub step-requires : goal.step-requires
 step-requires c =
     let there = c.in-Some.ensures.value in
-    let below = got_below c.args.image.now c.args.at there.cell there.there in
+    let below = slice_get_within c.args.image.now c.args.at there.cell there.there in
     let few = c.requires in
     omega (arith, below, few)
 

@@ -4,7 +4,7 @@ use Rattle.std.specs.Prelude.{bit_and, bit_or}
 use Rattle.node_memory.specs.jump_map.Strides.{skip}
 use Rattle.node_words.specs.Strides.{state_at}
 use Rattle.node_words.proofs.ReachLemmas.{Code, code_of}
-use Rattle.node_words.proofs.WholeLemmas.{stands_below, stands_low, strides_by, write_head_goes}
+use Rattle.node_words.proofs.WholeLemmas.{stands_low, strides_by, write_head_goes}
 use Rattle.node_words.proofs.exec_state.ExecState.write_head.Goals as goal
 
 -- a byte of which all bits are clear
@@ -12,13 +12,6 @@ no_bits : (n : ℕ) → n < 2 ^ 8 → bit_and n 255 ≡ 0 → n ≡ 0
 no_bits n small clear =
     let low : n % 2 ^ 8 ≡ 0 = sym (and_mask n 8) ∙ clear in
     omega (arith, small, low)
-
-pub on-requires-clause-low : goal.on-requires-clause-low
-on-requires-clause-low c =
-    let below = stands_below c.args.micros.now _ _ (c.requires.there.test 0 _ refl) in
-    let fits : Fits w64 ((c.args.going.now.at + c.args.spilled + 10 + 0) * 8) = search rules in
-    let some = c.requires.few in
-    omega (arith, some, fits)
 
 pub returns-then-head-clause-strides : goal.returns-then-head-clause-strides
 returns-then-head-clause-strides c image few are =

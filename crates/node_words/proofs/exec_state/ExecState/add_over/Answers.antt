@@ -3,7 +3,7 @@ use Rattle.node_memory.specs.micro_op.Kinds.{branch_kind}
 use Rattle.node_memory.specs.jump_map.Strides.{IsOver, IsPolled}
 use Rattle.node_words.proofs.ReachLemmas.{code_of}
 use Rattle.node_words.proofs.WholeLemmas.{op_then}
-use Rattle.node_words.proofs.exec_state.ExecState.add_then_over.Goals as goal
+use Rattle.node_words.proofs.exec_state.ExecState.add_over.Goals as goal
 
 pub over-requires-clause-polls : goal.over-requires-clause-polls
 over-requires-clause-polls c i below =

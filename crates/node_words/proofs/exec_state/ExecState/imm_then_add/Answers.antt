@@ -3,7 +3,7 @@ use Rattle.node_memory.specs.micro_op.declared.micro_op.MicroOp.{MicroOp}
 use Rattle.node_words.proofs.ReachLemmas.{code_of}
 use Rattle.node_words.proofs.UndoLogLemmas.{undoable_both}
 use Rattle.node_words.proofs.WholeLemmas.{found_at, op_then_op}
-use Rattle.node_words.proofs.exec_state.ExecState.by_immediate_then_add.Goals as goal
+use Rattle.node_words.proofs.exec_state.ExecState.imm_then_add.Goals as goal
 
 pub add-requires-clause-is : goal.add-requires-clause-is
 add-requires-clause-is c =
