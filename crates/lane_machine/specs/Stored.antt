@@ -14,7 +14,7 @@ use Rattle.node_machine.specs.node_words.declared.exec_state.ExecState.{ExecStat
 use Rattle.node_machine.specs.node_words.declared.lane.ProcessorState as kept
 use Rattle.node_machine.specs.node_words.declared.serve.Served.{Served}
 use Rattle.node_machine.specs.node_words.Address.{word_address}
-use Rattle.node_machine.specs.node_words.node_memory.Shelf.{local_of}
+use Rattle.node_machine.specs.node_words.node_memory.Shelf.{ground_of, local_of}
 use Rattle.node_machine.specs.node_words.Kept.{lane_of, phase_by}
 use Rattle.lane_model.specs.node_model.Node.{Node, Work, printed_also, word_outcome}
 use Rattle.lane_model.specs.node_model.Turns.{after_word, each_block_once, wants_of, words_before}
@@ -163,7 +163,7 @@ pub record IsShared (f : StoredShared) : Type 0 where
 pub record IsSameShared (f g : StoredShared) : Type 0 where
   pub shared : shared_of g ≡ shared_of f
   pub places : g.places.items ≡ f.places.items
-  pub body : g.state.body.value ≡ f.state.body.value
+  pub ground : ground_of g.state.body.value.local ≡ ground_of f.state.body.value.local
   pub ended : g.ended ≡ f.ended
 
 -- there is room for one entry of the journal and one byte of output

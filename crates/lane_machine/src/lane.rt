@@ -11,10 +11,10 @@ ghost use Rattle.lane_model.specs.Nodes as lanes;
 ghost use Rattle.lane_model.specs.Turns as moves;
 ghost use Rattle.lane_model.specs.Core as core;
 ghost use Rattle.lane_machine.specs.Waits.{wait_among, waits_in};
-ghost use Rattle.lane_machine.specs.Places.{wait_at};
+ghost use Rattle.lane_machine.specs.Places.{reserved_in, wait_at};
 ghost use Rattle.lane_machine.specs.Stored.{HasLane, HasRoom, HasGoneOn, IsHeld};
 ghost use Rattle.lane_machine.specs.Stored.{WaitsFor, lane_turn, part_of, work_of, with_lane};
-ghost use Rattle.lane_machine.specs.InUse.{AreSwapped, IsAlone};
+ghost use Rattle.lane_machine.specs.InUse.{ArePutBack, IsAlone};
 ghost use Rattle.lane_machine.specs.declared.stored.StoredLane.{StoredLane};
 ghost use Rattle.lane_machine.specs.declared.stored.StoredShared.{StoredShared};
 
@@ -175,15 +175,45 @@ impl<'a> Lane<'a> {
         self.inner.is_alone(&shared.inner)
     }
 
-    /// Puts the registers and the reservation in use at the node, and what is in use there in their
-    /// place. A second call puts all back.
-    #[inline]
-    pub fn swap_in_use(&mut self, shared: &mut Shared<'_>)
+    /// Puts the registers and the reservation in use at the node, where those of no lane are.
+    #[inline(always)]
+    pub fn put_in_use(&mut self, shared: &mut Shared<'_>)
         requires number { self.old.number < length shared.old.places.items }
-        ensures swapped { AreSwapped self.old shared.old self.new shared.new }
-        ensures back { AreSwapped self.new shared.new self.old shared.old }
+        ensures back { ArePutBack self.new shared.new self.old shared.old }
     {
-        self.inner.swap_in_use(&mut shared.inner);
+        self.inner.put_in_use(&mut shared.inner);
+    }
+
+    /// Puts the registers and the reservation back that are in use.
+    #[inline(always)]
+    pub fn put_back(&mut self, shared: &mut Shared<'_>)
+        requires number { self.old.number < length shared.old.places.items }
+        ensures back { ArePutBack self.old shared.old self.new shared.new }
+    {
+        self.inner.put_back(&mut shared.inner);
+    }
+
+    /// The same while no address is reserved in use.
+    #[inline(always)]
+    pub fn leave_use(&mut self, shared: &mut Shared<'_>)
+        requires number { self.old.number < length shared.old.places.items }
+        requires none { shared.old.state.body.value.local.reservation ≡ None }
+        ensures back { ArePutBack self.old shared.old self.new shared.new }
+        ensures none { shared.new.state.body.value.local.reservation ≡ None }
+    {
+        self.inner.leave_use(&mut shared.inner);
+    }
+
+    /// Puts the registers in use at the node, where those of no lane are and neither this lane has
+    /// reserved an address nor is one reserved in use.
+    #[inline(always)]
+    pub fn enter_use(&mut self, shared: &mut Shared<'_>)
+        requires number { self.old.number < length shared.old.places.items }
+        requires none { shared.old.state.body.value.local.reservation ≡ None }
+        requires free { reserved_in shared.old.places.items self.old.number ≡ None }
+        ensures back { ArePutBack self.new shared.new self.old shared.old }
+    {
+        self.inner.enter_use(&mut shared.inner);
     }
 
     /// A lane in use executes its next word by its micro-op, where that serves it and the budget
@@ -198,11 +228,11 @@ impl<'a> Lane<'a> {
         requires stamp { shared.old.state.stamp < 2 ^ 56 }
         // The turn is that of the lane which is put back before the word and behind it.
         ensures turn { result ≡ true → (l m : StoredLane) (f g : StoredShared)
-            → AreSwapped self.old shared.old l f → AreSwapped self.new shared.new m g
+            → ArePutBack self.old shared.old l f → ArePutBack self.new shared.new m g
             → (x : lanes.LaneNode) → HasLane l f x → moves.word_turn (work_of l f) x l.number
             ≡ lane_turn (with_lane x m g) [] None }
         ensures ended { result ≡ true → (l m : StoredLane) (f g : StoredShared)
-            → AreSwapped self.old shared.old l f → AreSwapped self.new shared.new m g
+            → ArePutBack self.old shared.old l f → ArePutBack self.new shared.new m g
             → (x : lanes.LaneNode) → HasLane l f x → HasLane m g (with_lane x m g) }
         ensures may { result ≡ true → model.can_execute (part_of self.new).phase ≡ true }
         ensures waits { result ≡ true → WaitsFor self.new shared.new }

@@ -41,6 +41,18 @@ pub(crate) fn swap_waits(protocol: &mut ProtocolState, place: &mut LaneProtocol)
     swap(&mut protocol.pool, &mut place.pool);
 }
 
+/// Moves a processor's state to another place. What stays behind belongs to no processor.
+#[inline(always)]
+pub(crate) fn move_state(from: &mut ProcessorState, to: &mut ProcessorState)
+    ensures { to.new ≡ from.old }
+{
+    to.registers = from.registers.copy();
+    swap(&mut to.private, &mut from.private);
+    to.written = from.written;
+    to.off = from.off;
+    to.spills = from.spills;
+}
+
 /// Puts a lane and its reservation in use, and what is in use in their place.
 #[inline(always)]
 pub(crate) fn swap_body(

@@ -1,6 +1,7 @@
 //! What the lanes of a node share, and the messages that the node takes.
 
-ghost use Rattle.std.specs.Prelude.{◌≡◌, ◌+◌, ◌^◌, ◌<◌, ◌≤◌, ℕ, [], None, IfOk, OnOk, length};
+ghost use Rattle.std.specs.Prelude.{◌≡◌, ◌+◌, ◌^◌, ◌<◌, ◌≤◌, ℕ, [], None, IfOk, OnOk, false};
+ghost use Rattle.std.specs.Prelude.{length};
 ghost use Rattle.exec_map.specs.Contents.{program_of};
 ghost use Rattle.lane_model.specs.node_model.Node as model;
 ghost use Rattle.lane_model.specs.node_model.Turns as turns;
@@ -106,6 +107,14 @@ impl<'a> Shared<'a> {
         ensures room { OnOk result (HasRoom self.new) }
     {
         self.inner.state.make_room()
+    }
+
+    /// Whether an address is reserved in use.
+    #[inline(always)]
+    pub fn reserves(&self) -> bool
+        ensures { result ≡ false → self.now.state.body.value.local.reservation ≡ None }
+    {
+        self.inner.state.body.local.reserved().is_some()
     }
 
     /// What the node has counted over its lanes.

@@ -7,14 +7,14 @@ ghost use Rattle.node_machine.specs.NodeState.{phase_of};
 ghost use Rattle.lane_model.specs.Nodes as lanes;
 ghost use Rattle.lane_model.specs.Turns as moves;
 ghost use Rattle.lane_machine.specs.Places.{reserved_in, wait_at};
-ghost use Rattle.lane_machine.specs.InUse.{AreSwapped, IsAlone};
+ghost use Rattle.lane_machine.specs.InUse.{ArePutBack, IsAlone};
 ghost use Rattle.lane_machine.specs.Stored.{IsHeld, IsLane, IsShared, HasLane};
 ghost use Rattle.lane_machine.specs.Stored.{WaitsFor, lane_turn, with_lane, work_of};
 ghost use Rattle.lane_machine.specs.declared.stored.StoredLane.{StoredLane};
 ghost use Rattle.lane_machine.specs.declared.stored.StoredShared.{StoredShared};
 
 use crate::asking::NO_BLOCK;
-use crate::lane_protocol::{LaneProtocol, swap_body};
+use crate::lane_protocol::{LaneProtocol, move_state};
 use crate::stored::{StoredLane, StoredShared};
 use node_machine::Phase;
 
@@ -46,23 +46,74 @@ impl<'a> StoredLane<'a> {
         !others_reserve(&shared.places, self.number)
     }
 
-    /// Puts the registers and the reservation in use at the node, and what is in use there in their
-    /// place.
-    #[inline]
-    pub fn swap_in_use(&mut self, shared: &mut StoredShared<'_>)
+    /// Puts the registers and the reservation in use at the node, where those of no lane are.
+    #[inline(always)]
+    pub fn put_in_use(&mut self, shared: &mut StoredShared<'_>)
         requires lane { IsLane self.old }
         requires shared { IsShared shared.old }
         requires number { self.old.number < length shared.old.places.items }
-        ensures swapped { AreSwapped self.old shared.old self.new shared.new }
-        ensures back { AreSwapped self.new shared.new self.old shared.old }
+        ensures back { ArePutBack self.new shared.new self.old shared.old }
         ensures lane { IsLane self.new }
         ensures shared { IsShared shared.new }
     {
-        swap_body(
-            &mut shared.state.body,
-            &mut self.lane,
-            &mut shared.places[self.number as usize],
-        );
+        let place = &mut shared.places[self.number as usize];
+        move_state(&mut self.lane, &mut shared.state.body.lane);
+        shared
+            .state
+            .body
+            .local
+            .swap_reservation(&mut place.reservation);
+    }
+
+    /// Puts the registers and the reservation back that are in use.
+    #[inline(always)]
+    pub fn put_back(&mut self, shared: &mut StoredShared<'_>)
+        requires lane { IsLane self.old }
+        requires shared { IsShared shared.old }
+        requires number { self.old.number < length shared.old.places.items }
+        ensures back { ArePutBack self.old shared.old self.new shared.new }
+        ensures lane { IsLane self.new }
+        ensures shared { IsShared shared.new }
+    {
+        let own = &mut shared.places[self.number as usize];
+        move_state(&mut shared.state.body.lane, &mut self.lane);
+        shared
+            .state
+            .body
+            .local
+            .swap_reservation(&mut own.reservation);
+    }
+
+    /// The same while no address is reserved in use.
+    #[inline(always)]
+    pub fn leave_use(&mut self, shared: &mut StoredShared<'_>)
+        requires lane { IsLane self.old }
+        requires shared { IsShared shared.old }
+        requires number { self.old.number < length shared.old.places.items }
+        requires none { shared.old.state.body.value.local.reservation ≡ None }
+        ensures back { ArePutBack self.old shared.old self.new shared.new }
+        ensures none { shared.new.state.body.value.local.reservation ≡ None }
+        ensures lane { IsLane self.new }
+        ensures shared { IsShared shared.new }
+    {
+        move_state(&mut shared.state.body.lane, &mut self.lane);
+        shared.places[self.number as usize].reservation.end();
+    }
+
+    /// Puts the registers in use at the node, where those of no lane are and neither this lane has
+    /// reserved an address nor is one reserved in use.
+    #[inline(always)]
+    pub fn enter_use(&mut self, shared: &mut StoredShared<'_>)
+        requires lane { IsLane self.old }
+        requires shared { IsShared shared.old }
+        requires number { self.old.number < length shared.old.places.items }
+        requires none { shared.old.state.body.value.local.reservation ≡ None }
+        requires free { reserved_in shared.old.places.items self.old.number ≡ None }
+        ensures back { ArePutBack self.new shared.new self.old shared.old }
+        ensures lane { IsLane self.new }
+        ensures shared { IsShared shared.new }
+    {
+        move_state(&mut self.lane, &mut shared.state.body.lane);
     }
 
     /// A lane in use executes its next word by its micro-op, where that serves it and the budget
@@ -79,11 +130,11 @@ impl<'a> StoredLane<'a> {
         requires stamp { shared.old.state.stamp < 2 ^ 56 }
         // The lane's turn is that of the lane which is put back before the word and behind it.
         ensures turn { result ≡ true → (l m : StoredLane) (f g : StoredShared)
-            → AreSwapped self.old shared.old l f → AreSwapped self.new shared.new m g
+            → ArePutBack self.old shared.old l f → ArePutBack self.new shared.new m g
             → (x : lanes.LaneNode) → HasLane l f x → moves.word_turn (work_of l f) x l.number
             ≡ lane_turn (with_lane x m g) [] None }
         ensures ended { result ≡ true → (l m : StoredLane) (f g : StoredShared)
-            → AreSwapped self.old shared.old l f → AreSwapped self.new shared.new m g
+            → ArePutBack self.old shared.old l f → ArePutBack self.new shared.new m g
             → (x : lanes.LaneNode) → HasLane l f x → HasLane m g (with_lane x m g) }
         ensures may { result ≡ true → model.can_execute (phase_of self.new.state.phase) ≡ true }
         ensures waits { result ≡ true → WaitsFor self.new shared.new }

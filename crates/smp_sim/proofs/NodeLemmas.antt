@@ -23,8 +23,7 @@ use Rattle.lane_machine.specs.Waits.{wait_among, waits_in, awaits_of}
 use Rattle.lane_machine.specs.declared.stored.StoredLane.{StoredLane}
 use Rattle.lane_machine.specs.declared.stored.StoredShared.{StoredShared}
 use Rattle.exec_map.specs.Contents.{program_of}
-use Rattle.lane_machine.specs.node_words.declared.exec_state.ExecState.{ExecState}
-use Rattle.lane_machine.specs.node_machine.NodeState.{layout_of}
+use Rattle.lane_machine.specs.node_words.node_memory.Shelf.{Ground, ground_of}
 use Rattle.lane_machine.specs.declared.lane_protocol.LaneProtocol.{LaneProtocol}
 use Rattle.lane_machine.specs.Places.{wait_at}
 use Rattle.lane_machine.specs.Stored.{AllHeld, AllWaitFor, AreLanes, HasLane, HaveLanes, HaveParts, IsAwaited, IsHeld, IsLaneOf, IsSameShared, WaitsFor, ended_in, lane_turn, part_of, shared_of, with_lane, work_of}
@@ -489,14 +488,15 @@ module _ (w : LaneWork) (x y : SmpNode) (j : ℕ) (wire : Wire) (is : IsNode w x
 -- 5. A node with more room stands for the same
 
 pub same_node : (w : LaneWork) (x : SmpNode) (f : StoredShared) → IsNode w x
-    → f.places.items ≡ x.shared.places.items → f.state.body.value ≡ x.shared.state.body.value
+    → f.places.items ≡ x.shared.places.items
+    → ground_of f.state.body.value.local ≡ ground_of x.shared.state.body.value.local
     → f.ended ≡ x.shared.ended → IsNode w (record x { shared = f })
-same_node w x f is places body ended = record {
+same_node w x f is places ground ended = record {
   lanes = record {
     count = is.lanes.count;
     places = ap length places ∙ is.lanes.places;
-    program = ap (λ (b : ExecState). program_of b.local.program) body ∙ is.lanes.program;
-    layout = ap layout_of body ∙ is.lanes.layout;
+    program = ap (λ (g : Ground). program_of g.program) ground ∙ is.lanes.program;
+    layout = ap (λ (g : Ground). g.layout) ground ∙ is.lanes.layout;
     each = is.lanes.each;
   };
   waits = λ k d low b some. is.waits k d low b
@@ -514,7 +514,7 @@ same_node w x f is places body ended = record {
 pub same_parts : (w : LaneWork) (x y : SmpNode) → y.lanes.items ≡ x.lanes.items
     → IsSameShared x.shared y.shared → IsNode w x → IsNode w y
 same_parts w x y items shared here =
-    let is = same_node w x y.shared here shared.places shared.body shared.ended in
+    let is = same_node w x y.shared here shared.places shared.ground shared.ended in
     record {
       lanes = subst (λ ls. AreLanes w ls y.shared) (sym items) is.lanes;
       waits = subst (λ ls. AllWaitFor ls y.shared) (sym items) is.waits;

@@ -1,6 +1,6 @@
 -- A word that sends nothing, and behind which its processor may execute another, leaves what is
 -- allowed as it was, where no message is on its way to its node.
-use Rattle.std.proofs.Common.{◌≡◌, ◌≢◌, ℕ, ◌<◌, ◌&&◌, ◌||◌, Bool, true, false, cond, eqb, not, List, [], ◌++◌, arith, refl, sym, ap, ◌∙◌, inl, inr}
+use Rattle.std.proofs.Common.{◌≡◌, ◌≢◌, ℕ, ◌<◌, ◌&&◌, ◌||◌, Bool, true, false, cond, eqb, not, List, ◌++◌, arith, refl, sym, ap, ◌∙◌, inl, inr}
 use Rattle.std.proofs.lemmas.List.{append-nil}
 use Rattle.std.proofs.Math.Path.{fun_ext}
 use Rattle.std.proofs.lemmas.Bool.Decides.{eqb_tells, nat_tests}
@@ -13,11 +13,12 @@ use Rattle.lane_model.specs.Turns.{LaneTurn, have_ended, word_before, word_turn}
 use Rattle.lane_model.specs.Core.{LaneCore, LaneEvent, Exec, Take, May, event_step, lane_lets, lowers_first, may_take_first, standing_in, standing_of}
 use Rattle.shared_sim.specs.ByOrder.{has_wire}
 use Rattle.smp_sim.specs.CoreParts.{AreAlike}
-use Rattle.smp_sim.specs.CoreSteps.{IsSilent}
+use Rattle.smp_sim.specs.CoreSteps.{IsShut, IsSilent}
 use Rattle.smp_sim.specs.ByOrder.{all_events, choices, is_allowed}
 use Rattle.smp_sim.specs.Listing.{IsThere}
 use Rattle.smp_sim.proofs.Choices.{all_there, choices_alike, same_filtered}
 use Rattle.smp_sim.proofs.CoreRuns.{placed}
+use Rattle.smp_sim.proofs.LanesTold.{and_false, lane_not}
 use Rattle.smp_sim.proofs.NodeLemmas.{byes_node}
 
 -- whether a lane may execute a word is told by its phase
@@ -52,6 +53,15 @@ stands_same w x y k is = by_phase (x.lanes k).phase
     own Resumed = refl
     own (Waiting r) = refl
     own (Ended e) = refl
+
+-- a message that takes a block away isn't taken where a lane lets none of those in
+held_out : (w : LaneWork) (x : LaneNode) (ws : List Wire) (j : ℕ) → lowers_first ws ≡ true
+    → j < w.lanes → lane_lets w x j ≡ false → has_wire ws && may_take_first w x ws ≡ false
+held_out w x ws j lowers low holds =
+    let all : all_lanes (lane_lets w x) w.lanes ≡ false = lane_not (lane_lets w x) w.lanes j low holds in
+    (λ s. has_wire ws && (some_lane (lane_lets w x) w.lanes && (not (lowers s) || all s)))
+    ∙ ap (λ z. has_wire ws && z) (and_false (some_lane (lane_lets w x) w.lanes))
+    ∙ and_false (has_wire ws)
 
 module _ (w : LaneWork) (c : LaneCore) (p : ℕ) (some : 0 < w.lanes) (may : May w c (Exec p))
     (is : IsSilent w c p) where
@@ -114,26 +124,43 @@ module _ (w : LaneWork) (c : LaneCore) (p : ℕ) (some : 0 < w.lanes) (may : May
       may_is w there (lane_of w q) (there.lanes (lane_of w q)).phase ∙ phase_same q
       ∙ sym (may_is w here (lane_of w q) (here.lanes (lane_of w q)).phase)
 
-  take_same : (m j : ℕ) → d.list j i ≡ [] → is_allowed w d (Take m j) ≡ is_allowed w c (Take m j)
-  take_same m j none = elim (eqb_tells m i) [
-    | inl e ↦ (let there : d.list j m ≡ [] = ap (d.list j) e.1 ∙ none in
-        let here : c.list j m ≡ [] = sym (list_same j m) ∙ there in
-        ap (λ ws. has_wire ws && may_take_first w (d.nodes m) ws) there
-        ∙ sym (ap (λ ws. has_wire ws && may_take_first w (c.nodes m) ws) here))
+  -- another lane that lets no message in that takes a block away does so still
+  not_taken : (j : ℕ) → IsShut w x k (c.list j i) → is_allowed w c (Take i j) ≡ false
+  not_taken j (inl none) = ap (λ ws. has_wire ws && may_take_first w x ws) none
+  not_taken j (inr shut) = held_out w x (c.list j i) shut.1.lane shut.0 shut.1.low shut.1.holds
+
+  not_taken_then : (j : ℕ) → IsShut w x k (c.list j i)
+      → has_wire (d.list j i) && may_take_first w t.node (d.list j i) ≡ false
+  not_taken_then j (inl none) =
+      ap (λ ws. has_wire ws && may_take_first w t.node ws) (list_same j i ∙ none)
+  not_taken_then j (inr shut) =
+      let h = shut.1 in
+      held_out w t.node (d.list j i) h.lane (ap lowers_first (list_same j i) ∙ shut.0) h.low
+      (ap may_take (stands_same w t.node x h.lane (other_lane h.lane h.other)) ∙ h.holds)
+
+  take_same : (m j : ℕ) → IsShut w x k (c.list j i)
+      → is_allowed w d (Take m j) ≡ is_allowed w c (Take m j)
+  take_same m j shut = elim (eqb_tells m i) [
+    | inl e ↦ (let there : d.nodes m ≡ t.node = rw e.0 refl in
+        ap (λ z. has_wire (d.list j m) && may_take_first w z (d.list j m)) there
+        ∙ ap (λ n. has_wire (d.list j n) && may_take_first w t.node (d.list j n)) e.1
+        ∙ not_taken_then j shut ∙ sym (not_taken j shut)
+        ∙ ap (λ n. is_allowed w c (Take n j)) (sym e.1))
     | inr e ↦ (let there : d.nodes m ≡ c.nodes m = rw e.0 refl in
         λ s. has_wire (list_same j m s) && may_take_first w (there s) (list_same j m s))
   ]
 
-  same_event : ((j : ℕ) → j < w.work.layout.nodes → d.list j i ≡ []) → (e : LaneEvent)
+  same_event : ((j : ℕ) → j < w.work.layout.nodes → IsShut w x k (c.list j i)) → (e : LaneEvent)
       → IsThere w e → is_allowed w d e ≡ is_allowed w c e
-  same_event none (Exec q) low = word_same q
-  same_event none (Take m j) low = take_same m j (none j low.1)
+  same_event shut (Exec q) low = word_same q
+  same_event shut (Take m j) low = take_same m j (shut j low.1)
 
   pub silent_choices : (f : LaneCore) → AreAlike w.work.layout.nodes f d
-      → ((j : ℕ) → j < w.work.layout.nodes → f.list j i ≡ []) → choices w f ≡ choices w c
-  silent_choices f alike none = choices_alike w f d some alike
+      → ((j : ℕ) → j < w.work.layout.nodes → IsShut w x k (c.list j i))
+      → choices w f ≡ choices w c
+  silent_choices f alike shut = choices_alike w f d some alike
       ∙ same_filtered w (is_allowed w d) (is_allowed w c) (all_events w) (all_there w)
-      (same_event (λ j low. sym (alike.lists j i low (placed w p some may.0)) ∙ none j low))
+      (same_event shut)
 
   -- where the processor stands as before, messages on their way to its node change nothing
   lets_same : standing_of w t.node k ≡ standing_of w x k → (j : ℕ)

@@ -1,6 +1,6 @@
 -- Turns of nodes of which lanes are in use.
-use Rattle.std.proofs.Common.{◌≡◌, ℕ, zero, suc, ◌+◌, ◌<◌, ◌≤◌, Bool, true, false, List, [], ◌∷◌, length, get_or, set, map, Option, None, Some, replicate, refl, sym, ap, ◌∙◌, subst, inl, inr, length-set, arith}
-use Rattle.std.proofs.lemmas.List.{get_or_default, get_or-set_same, get_or-set_other}
+use Rattle.std.proofs.Common.{◌≡◌, ℕ, zero, suc, ◌+◌, ◌^◌, ◌<◌, ◌≤◌, Bool, true, false, List, [], ◌∷◌, length, get_or, set, map, Option, None, Some, replicate, refl, sym, ap, ◌∙◌, subst, inl, inr, length-set, arith}
+use Rattle.std.proofs.lemmas.List.{get_or_default, get_or-set_same, get_or-set_other, set-get_or}
 use Rattle.std.proofs.lemmas.Bool.Decides.{eqb_tells}
 use Rattle.random_order.specs.Orders.{following}
 use Rattle.lane_model.specs.node_model.Core.{may_execute}
@@ -12,6 +12,7 @@ use Rattle.smp_sim.specs.declared.node.SmpNode.{SmpNode}
 use Rattle.smp_sim.specs.declared.work.SmpWork.{SmpWork}
 use Rattle.smp_sim.specs.CoreParts.{AreStored, CoreParts, IsCore, IsNode, IsRunTo, core_of, core_with, event_of, lane_work, node_in, parts_of}
 use Rattle.smp_sim.specs.ByOrder.{choices, pick_among}
+use Rattle.smp_sim.specs.CoreSteps.{CanExecute, IsShut}
 use Rattle.smp_sim.specs.InUse.{AreAtRest, AreSameNodes, HasTurned, HaveRests, HaveTurned, MayTurn, MayTurnOn, RestsAs}
 use Rattle.smp_sim.specs.Turns.{LeadsOn, StopsAt}
 use Rattle.smp_sim.proofs.CoreRuns.{lane_low, placed}
@@ -114,6 +115,16 @@ module _ (w : SmpWork) (lists : List Queue) (ys : List SmpNode) (out : List ℕ)
         stamp = omega (arith, low, most);
       }
 
+  -- no message is on its way, where a lane is in use or that was found
+  pub no_mail : (get_or used i None ≡ None → (j : ℕ) → j < w.layout.now.nodes
+      → wires_of lists w.layout.now.nodes j i ≡ [])
+      → (j : ℕ) → j < w.layout.now.nodes → wires_of lists w.layout.now.nodes j i ≡ []
+  no_mail quiet j low = go (get_or used i None) refl
+    where
+      go : (o : Option ℕ) → get_or used i None ≡ o → wires_of lists w.layout.now.nodes j i ≡ []
+      go None e = quiet e j low
+      go (Some b) e = rest.quiet i j low_node low (λ none. absurd (let bad = sym e ∙ none in cc))
+
   -- where it has none
   pub turned_not : HaveTurned w lists ys out (Exec r) false xs used
   turned_not = record {
@@ -127,20 +138,15 @@ module _ (w : SmpWork) (lists : List Queue) (ys : List SmpNode) (out : List ℕ)
 
   module _ (done : Bool) (x2 : SmpNode) (u2 : Option ℕ) (t : HasTurned y k done x2 u2)
       (long : i < length used)
-      (quiet : get_or used i None ≡ None → (j : ℕ) → j < w.layout.now.nodes
-      → wires_of lists w.layout.now.nodes j i ≡ []) where
+      (quiet : (u2 ≡ None → ⊥) → (j : ℕ) → j < w.layout.now.nodes
+      → wires_of lists w.layout.now.nodes j i ≡ [])
+      (shut : (j : ℕ) → j < w.layout.now.nodes
+      → IsShut v (node_in v i y) k (wires_of lists w.layout.now.nodes j i)) where
     abbrev z : SmpNode
     z = t.rest
 
     abbrev zs : List SmpNode
     zs = set ys i z
-
-    no_mail : (j : ℕ) → j < w.layout.now.nodes → wires_of lists w.layout.now.nodes j i ≡ []
-    no_mail j low = go (get_or used i None) refl
-      where
-        go : (o : Option ℕ) → get_or used i None ≡ o → wires_of lists w.layout.now.nodes j i ≡ []
-        go None e = quiet e j low
-        go (Some b) e = rest.quiet i j low_node low (λ none. absurd (let bad = sym e ∙ none in cc))
 
     rests_on : HaveRests (set xs i x2) (set used i u2) zs
     rests_on j x e low = elim (eqb_tells j i) [
@@ -164,7 +170,9 @@ module _ (w : SmpWork) (lists : List Queue) (ys : List SmpNode) (out : List ℕ)
         count = length-set ys i z ∙ rest.count ∙ sym (length-set xs i x2);
         each = rests_on;
         quiet = λ a j low below some. elim (eqb_tells a i) [
-          | inl q ↦ ap (λ n. wires_of lists w.layout.now.nodes j n) q.1 ∙ no_mail j below
+          | inl q ↦ ap (λ n. wires_of lists w.layout.now.nodes j n) q.1
+              ∙ quiet (λ none. some (ap (λ n. get_or (set used i u2) n None) q.1
+              ∙ get_or-set_same used i u2 None long ∙ none)) j below
           | inr q ↦ rest.quiet a j low below
               (λ none. some (get_or-set_other used i a u2 None q.1 ∙ none))
         ];
@@ -174,13 +182,46 @@ module _ (w : SmpWork) (lists : List Queue) (ys : List SmpNode) (out : List ℕ)
           (λ yes. silent_choices v (core_of p) r core.work.some may
           (silent_then p r y z done core may at t.node t.turn t.may t.stamps t.same yes)
           (core_of (parts_of w zs lists out))
-          (event_then p r y z done core may at t.node t.turn t.may t.stamps t.same yes) no_mail)
+          (event_then p r y z done core may at t.node t.turn t.may t.stamps t.same yes)
+          (λ j low. subst (λ (n : LaneNode). IsShut v n k (wires_of lists w.layout.now.nodes j i))
+          (sym there) (shut j low)))
           (λ no. ap (choices v)
           (core_kept p r y z done core may at t.node t.turn t.may t.stamps t.same no));
       made = run_on p r y z done core may at t.node t.turn t.may t.stamps t.same;
       kept = λ no. run_same p (parts_of w zs lists out) refl
           (core_kept p r y z done core may at t.node t.turn t.may t.stamps t.same no) refl;
     }
+
+  -- where no lane of the node is in use
+  module _ (x : SmpNode) (here : x ≡ get_or xs i x) (none : get_or used i None ≡ None) where
+    rests_none : y ≡ x
+    rests_none = subst (λ (o : Option ℕ). RestsAs x o y) none (rests_at x here)
+
+    pub is_none : IsNode v x
+    is_none = subst (IsNode v) rests_none is
+
+    pub may_none : AreShort → CanExecute x k × (x.shared.state.stamp < 2 ^ 56)
+    unfolding may_turn
+    may_none law =
+        let m = may_turn law x here in (
+          subst (λ z. CanExecute z k) rests_none m.may,
+          subst (λ (z : SmpNode). z.shared.state.stamp < 2 ^ 56) rests_none m.stamp,
+        )
+
+    abbrev pub ShutTo : SmpNode → Type 0
+    ShutTo z = (j : ℕ) → j < w.layout.now.nodes
+        → IsShut v (node_in v i z) k (wires_of lists w.layout.now.nodes j i)
+
+    pub shut_rest : ShutTo x → ShutTo y
+    shut_rest = subst ShutTo (sym rests_none)
+
+    -- and none stays so
+    pub turned_shut : (done : Bool) (x2 : SmpNode) → i < length used → HasTurned x k done x2 None
+        → ShutTo y → HaveTurned w lists ys out (Exec r) done (set xs i x2) used
+    turned_shut done x2 long t shut = subst (HaveTurned w lists ys out (Exec r) done (set xs i x2))
+        (ap (set used i) (sym none) ∙ set-get_or used i None)
+        (turned_on done x2 None (subst (λ z. HasTurned z k done x2 None) (sym rests_none) t) long
+        (λ some. absurd (some refl)) shut)
 
 -- 2. All lanes are put back
 

@@ -1,10 +1,11 @@
 -- Helps the code alone: events of nodes and lists, as they are stored.
-use Rattle.std.specs.Prelude.{◌≡◌, ℕ, ◌+◌, ◌<◌, true, List, [], ◌++◌, map, slice_index_or, length}
+use Rattle.std.specs.Prelude.{◌≡◌, ◌≢◌, ◌⊎◌, ℕ, ◌+◌, ◌<◌, true, false, List, [], ◌++◌, map, slice_index_or, length}
+use Rattle.home_directory.specs.dsm_messages.declared.messages.Wire.{Wire}
 use Rattle.lane_model.specs.node_model.Node.{can_execute}
 use Rattle.lane_law.specs.dsm_protocol.Queue.{Queue}
-use Rattle.lane_model.specs.Nodes.{LaneWork, opening_node, processor_of, node_of, lane_of, first_part}
+use Rattle.lane_model.specs.Nodes.{LaneNode, LaneWork, opening_node, processor_of, node_of, lane_of, first_part}
 use Rattle.lane_model.specs.Turns.{word_turn}
-use Rattle.lane_model.specs.Core.{LaneCore, LaneEvent, event_step, printed_at}
+use Rattle.lane_model.specs.Core.{LaneCore, LaneEvent, event_step, lane_lets, lowers_first, printed_at}
 use Rattle.lane_machine.specs.declared.stored.StoredLane.{StoredLane}
 use Rattle.lane_machine.specs.Stored.{HasRoom, IsLaneOf, part_of}
 use Rattle.smp_sim.specs.declared.node.SmpNode.{SmpNode}
@@ -49,6 +50,21 @@ pub record IsSilent (w : LaneWork) (c : LaneCore) (p : ℕ) : Type 0 where
   pub may : can_execute
       ((word_turn w (c.nodes (node_of w p)) (lane_of w p)).node.lanes (lane_of w p)).phase
       ≡ true
+
+-- a lane but k lets no message in that takes something of its block away
+pub record HoldsBeside (w : LaneWork) (x : LaneNode) (k : ℕ) : Type 0 where
+  pub lane : ℕ
+  pub low : lane < w.lanes
+  pub other : lane ≢ k
+  pub holds : lane_lets w x lane ≡ false
+
+-- the first of these messages, where there is one, takes something of its block away
+abbrev pub TakeAway : List Wire → Type 0
+TakeAway wires = (wires ≡ []) ⊎ (lowers_first wires ≡ true)
+
+-- the node takes none of these messages, whatever lane k does
+abbrev pub IsShut : LaneWork → LaneNode → (k : ℕ) → List Wire → Type 0
+IsShut w x k wires = (wires ≡ []) ⊎ ((lowers_first wires ≡ true) × HoldsBeside w x k)
 
 -- nothing has changed but room
 pub record HaveKept (w : LaneWork) (old_nodes new_nodes : List SmpNode)

@@ -5,7 +5,7 @@ use Rattle.lane_model.specs.Turns.{word_turn}
 use Rattle.lane_model.specs.Core.{LaneEvent, May}
 use Rattle.lane_law.specs.dsm_protocol.Queue.{Queue, wires_of}
 use Rattle.lane_machine.specs.declared.stored.StoredLane.{StoredLane}
-use Rattle.lane_machine.specs.InUse.{AreSwapped}
+use Rattle.lane_machine.specs.InUse.{ArePutBack}
 use Rattle.lane_machine.specs.Places.{reserved_in}
 use Rattle.lane_machine.specs.Stored.{IsSameShared, lane_turn}
 use Rattle.smp_sim.specs.declared.node.SmpNode.{SmpNode}
@@ -14,19 +14,19 @@ use Rattle.smp_sim.specs.CoreParts.{IsCore, IsNode, IsRunTo, core_with, lane_wor
 use Rattle.smp_sim.specs.CoreSteps.{CanExecute}
 use Rattle.smp_sim.specs.ByOrder.{choices}
 
--- lane k of node x has changed places with what was in use: the node is y then
-pub record IsSwapped (x : SmpNode) (k : ℕ) (y : SmpNode) : Type 0 where
+-- lane k of node x is in use: the node is y once it is put back
+pub record IsPutBack (x : SmpNode) (k : ℕ) (y : SmpNode) : Type 0 where
   pub before : StoredLane
   pub after : StoredLane
   pub is_before : before ≡ slice_index_or x.lanes.items k before
-  pub swapped : AreSwapped before x.shared after y.shared
+  pub put_back : ArePutBack before x.shared after y.shared
   pub lanes : y.lanes.items ≡ slice_set x.lanes.items k after
 
 -- lane k of node x is in use, and the node is y once it is put back; no other has reserved an
 -- address
 pub record IsInUse (x : SmpNode) (k : ℕ) (y : SmpNode) : Type 0 where
   pub low : k < length x.lanes.items
-  pub swapped : IsSwapped x k y
+  pub put_back : IsPutBack x k y
   pub alone : (j : ℕ) → j ≢ k → reserved_in x.shared.places.items j ≡ None
 
 -- the node is y once the lane in use is put back, where one is

@@ -237,7 +237,7 @@ impl<'a> SmpCore<'a> {
     }
 
     /// Makes the turns that an order picks next among the events that are listed, as long as each
-    /// is a word by its micro-op and no message is on its way to its node. It gives the event that
+    /// is a word by its micro-op and its node takes no message behind it. It gives the event that
     /// is picked behind them, which isn't made, or `None` after many turns.
     pub(crate) fn run_silent(&mut self, events: &[SmpEvent], order: &mut Order) -> Option<SmpEvent>
         requires some { 1 ≤ length events.now }

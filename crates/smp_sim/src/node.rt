@@ -1,6 +1,6 @@
 //! A node of several processors, as it is stored, and its events.
 
-ghost use Rattle.std.specs.Prelude.{◌≡◌, ◌+◌, ◌^◌, ◌<◌, ◌≤◌, ℕ, true, false, IfOk, OnOk};
+ghost use Rattle.std.specs.Prelude.{◌≡◌, ◌≢◌, ◌+◌, ◌^◌, ◌<◌, ◌≤◌, ℕ, true, false, IfOk, OnOk};
 ghost use Rattle.std.specs.Prelude.{List, [], ◌∷◌, None, Some, length, slice_index_or};
 ghost use Rattle.home_directory.specs.dsm_messages.declared.messages.Wire.{Wire as Sent};
 ghost use Rattle.lane_machine.specs.miss_handlers.Rows.{takes_away};
@@ -11,10 +11,11 @@ ghost use Rattle.lane_model.specs.node_model.Turns.{later};
 ghost use Rattle.lane_model.specs.Core as core;
 ghost use Rattle.lane_model.specs.Nodes.{LaneWork, all_lanes, opening_node, processors, some_lane};
 ghost use Rattle.lane_model.specs.Turns.{word_turn, take_turn};
+ghost use Rattle.lane_machine.specs.Places.{reserved_in};
 ghost use Rattle.lane_machine.specs.Stored.{HasRoom, lane_turn};
 ghost use Rattle.smp_sim.specs.CoreParts.{IsNode, lane_work, node_in};
-ghost use Rattle.smp_sim.specs.CoreSteps.{AreFirstLanes, CanExecute};
-ghost use Rattle.smp_sim.specs.InUse.{HasTurned, IsSameNode, IsSwapped, MayTurn, RestsAs};
+ghost use Rattle.smp_sim.specs.CoreSteps.{AreFirstLanes, CanExecute, HoldsBeside};
+ghost use Rattle.smp_sim.specs.InUse.{HasTurned, IsSameNode, IsPutBack, MayTurn, RestsAs};
 ghost use Rattle.smp_sim.specs.declared.node.SmpNode.{SmpNode};
 ghost use Rattle.lane_machine.specs.declared.stored.StoredLane.{StoredLane};
 
@@ -80,16 +81,53 @@ impl<'a> SmpNode<'a> {
         self.lanes[lane as usize].exec(&mut self.shared, sends)
     }
 
-    /// The registers and the reservation of a lane change places with what is in use.
-    #[inline]
-    fn swap_in_use(&mut self, lane: u8)
+    /// Puts the registers and the reservation of a lane back that are in use.
+    #[inline(always)]
+    fn put_lane_back(&mut self, lane: u8)
         requires lane { lane < length self.old.lanes.items }
         requires place { (l : StoredLane) → l ≡ slice_index_or self.old.lanes.items lane l
             → l.number < length self.old.shared.places.items }
-        ensures swapped { IsSwapped self.old lane self.new }
-        ensures back { IsSwapped self.new lane self.old }
+        ensures { IsPutBack self.old lane self.new }
     {
-        self.lanes[lane as usize].swap_in_use(&mut self.shared);
+        self.lanes[lane as usize].put_back(&mut self.shared);
+    }
+
+    /// Puts the registers and the reservation of a lane in use, where those of no lane are.
+    #[inline(always)]
+    fn put_lane_in_use(&mut self, lane: u8)
+        requires lane { lane < length self.old.lanes.items }
+        requires place { (l : StoredLane) → l ≡ slice_index_or self.old.lanes.items lane l
+            → l.number < length self.old.shared.places.items }
+        ensures { IsPutBack self.new lane self.old }
+    {
+        self.lanes[lane as usize].put_in_use(&mut self.shared);
+    }
+
+    /// Puts the registers of a lane back that are in use, while no address is reserved there.
+    #[inline(always)]
+    fn leave_lane(&mut self, lane: u8)
+        requires lane { lane < length self.old.lanes.items }
+        requires place { (l : StoredLane) → l ≡ slice_index_or self.old.lanes.items lane l
+            → l.number < length self.old.shared.places.items }
+        requires none { self.old.shared.state.body.value.local.reservation ≡ None }
+        ensures back { IsPutBack self.old lane self.new }
+        ensures none { self.new.shared.state.body.value.local.reservation ≡ None }
+    {
+        self.lanes[lane as usize].leave_use(&mut self.shared);
+    }
+
+    /// Puts the registers of a lane in use, where those of no lane are and no lane has reserved an
+    /// address.
+    #[inline(always)]
+    fn enter_lane(&mut self, lane: u8)
+        requires lane { lane < length self.old.lanes.items }
+        requires place { (l : StoredLane) → l ≡ slice_index_or self.old.lanes.items lane l
+            → l.number < length self.old.shared.places.items }
+        requires none { self.old.shared.state.body.value.local.reservation ≡ None }
+        requires free { (k : ℕ) → reserved_in self.old.shared.places.items k ≡ None }
+        ensures back { IsPutBack self.new lane self.old }
+    {
+        self.lanes[lane as usize].enter_use(&mut self.shared);
     }
 
     /// Puts the lane in use back, where one is.
@@ -99,7 +137,7 @@ impl<'a> SmpNode<'a> {
         ensures none { used.new ≡ None }
     {
         if let Some(lane) = *used {
-            self.swap_in_use(lane);
+            self.put_lane_back(lane);
             *used = None;
         }
     }
@@ -117,7 +155,30 @@ impl<'a> SmpNode<'a> {
         if !self.lanes[lane as usize].is_alone(&self.shared) {
             return false;
         }
-        self.swap_in_use(lane);
+        self.put_lane_in_use(lane);
+        *used = Some(lane);
+        true
+    }
+
+    /// Puts a lane in use in place of the one that is, where none has reserved an address, and says
+    /// whether it did. Otherwise nothing changes.
+    #[inline(always)]
+    fn change_lane(&mut self, used: &mut Option<u8>, lane: u8) -> bool
+        requires may { MayTurn self.old used.old lane }
+        ensures rests { result ≡ true → (y : SmpNode) → RestsAs self.old used.old y
+            → (z : SmpNode) × RestsAs self.new used.new z × IsSameNode y z }
+        ensures used { result ≡ true → used.new ≡ Some lane }
+        ensures kept { result ≡ false → self.new ≡ self.old }
+        ensures same { result ≡ false → used.new ≡ used.old }
+    {
+        let Some(before) = *used else {
+            return false;
+        };
+        if self.shared.reserves() {
+            return false;
+        }
+        self.leave_lane(before);
+        self.enter_lane(lane);
         *used = Some(lane);
         true
     }
@@ -132,6 +193,9 @@ impl<'a> SmpNode<'a> {
         ensures used { result ≡ true → used.new ≡ Some lane }
     {
         if is_lane(*used, lane) {
+            return true;
+        }
+        if self.change_lane(used, lane) {
             return true;
         }
         self.put_in_use(used, lane)
@@ -257,6 +321,30 @@ impl<'a> SmpNode<'a> {
         true
     }
 
+    /// Whether a lane is another one, and lets its node take no message.
+    fn holds_other(&self, other: u8, lane: u8) -> bool
+        requires lane { other < length self.now.lanes.items }
+        ensures other { result ≡ true → other ≢ lane }
+        ensures holds { result ≡ true → (w : LaneWork) (i : ℕ) → IsNode w self.now
+            → core.lane_lets w (node_in w i self.now) other ≡ false }
+    {
+        other != lane && !self.lets(other)
+    }
+
+    /// Whether some of so many lanes but for one doesn't let its node take a message.
+    pub fn holds_beside(&self, lanes: u8, lane: u8) -> bool
+        requires lanes { lanes ≤ length self.now.lanes.items }
+        ensures { result ≡ true → (w : LaneWork) (i : ℕ) → IsNode w self.now → w.lanes ≡ lanes
+            → HoldsBeside w (node_in w i self.now) lane }
+    {
+        for other in 0..lanes {
+            if self.holds_other(other, lane) {
+                return true;
+            }
+        }
+        false
+    }
+
     /// Whether the node, which has so many lanes, may take a message.
     pub fn can_take(&self, lanes: u8, message: &Message) -> bool
         requires lanes { lanes ≡ length self.now.lanes.items }
@@ -330,7 +418,7 @@ fn is_lane(used: Option<u8>, lane: u8) -> bool
 }
 
 /// Whether a message takes something of its block away from the node.
-fn takes_away(message: &Message) -> bool
+pub(crate) fn takes_away(message: &Message) -> bool
     ensures { result ≡ takes_away message.now }
 {
     match message {

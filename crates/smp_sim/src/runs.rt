@@ -1,14 +1,15 @@
 //! Turns that an order picks, as long as each is a word by its micro-op.
 
 ghost use Rattle.std.specs.Prelude.{◌≡◌, ◌<◌, ◌≤◌, ℕ, List, Some, map, length};
-ghost use Rattle.std.specs.Prelude.{MatchOption, [], None, true};
+ghost use Rattle.std.specs.Prelude.{MatchOption, [], None, true, false};
 ghost use Rattle.random_order.specs.Orders.{following};
 ghost use Rattle.lane_law.specs.dsm_protocol.Queue.{AreQueues, wires_of};
 ghost use Rattle.lane_model.specs.Core as model;
 ghost use Rattle.lane_model.specs.Core.{May};
 ghost use Rattle.lane_model.specs.Nodes.{LaneWork};
-ghost use Rattle.smp_sim.specs.CoreParts.{AreNodes, IsCore, core_of, core_with, event_of};
-ghost use Rattle.smp_sim.specs.CoreParts.{lane_work, parts_of};
+ghost use Rattle.smp_sim.specs.CoreParts.{AreNodes, IsCore, IsNode, core_of, core_with, event_of};
+ghost use Rattle.smp_sim.specs.CoreParts.{lane_work, node_in, parts_of};
+ghost use Rattle.smp_sim.specs.CoreSteps.{IsShut};
 ghost use Rattle.smp_sim.specs.ByOrder.{choices, pick_among};
 ghost use Rattle.smp_sim.specs.InUse.{AreAtRest, AreSameNodes, HaveRests, HaveTurned};
 ghost use Rattle.smp_sim.specs.InUse.{MayTurnOn};
@@ -17,7 +18,7 @@ ghost use Rattle.smp_sim.specs.declared.node.SmpNode.{SmpNode};
 
 use crate::cores::SmpEvent;
 use crate::node::SmpNode;
-use crate::steps::has_mail;
+use crate::steps::{all_take_away, has_mail};
 use crate::work::SmpWork;
 use lane_law::dsm_protocol::Queue;
 use lane_law::lane_progress_law;
@@ -46,12 +47,29 @@ fn is_quiet(lists: &[Queue], count: u8, used: Option<u8>, node: u8) -> bool
     requires node { node < count }
     ensures quiet { result ≡ true → used ≡ None
         → (from : ℕ) → from < count → wires_of lists.now count from node ≡ [] }
+    ensures none { result ≡ false → used ≡ None }
 {
     used.is_some() || !has_mail(lists, count, node)
 }
 
-/// A processor that may execute a word does so by its micro-op, where that serves it, no message is
-/// on its way to its node and no other lane has reserved an address, and says whether it did.
+/// Whether a node takes no message that is on its way to it, whatever a lane does: each takes
+/// something of its block away, and another lane lets none of those in.
+fn is_shut(node: &SmpNode<'_>, lists: &[Queue], count: u8, number: u8, lanes: u8, lane: u8) -> bool
+    requires lists { AreQueues lists.now count }
+    requires node { number < count }
+    requires lanes { lanes ≤ length node.now.lanes.items }
+    ensures { result ≡ true → (w : LaneWork) → IsNode w node.now → w.lanes ≡ lanes
+        → (from : ℕ) → from < count
+        → IsShut w (node_in w number node.now) lane (wires_of lists.now count from number) }
+{
+    if !node.holds_beside(lanes, lane) {
+        return false;
+    }
+    all_take_away(lists, count, number)
+}
+
+/// A processor that may execute a word does so by its micro-op, where that serves it, its node
+/// takes no message behind it and no other lane has reserved an address, and says whether it did.
 #[inline(always)]
 fn turn(
     nodes: &mut Vec<SmpNode<'_>>,
@@ -73,10 +91,13 @@ fn turn(
     let count = work.layout.nodes();
     let node = processor / work.lanes;
     let lane = processor % work.lanes;
-    if !is_quiet(lists, count, used[node as usize], node) {
+    if is_quiet(lists, count, used[node as usize], node) {
+        return nodes[node as usize].turn(&mut used[node as usize], lane);
+    }
+    if !is_shut(&nodes[node as usize], lists, count, node, work.lanes, lane) {
         return false;
     }
-    nodes[node as usize].turn(&mut used[node as usize], lane)
+    nodes[node as usize].exec_silent(lane)
 }
 
 /// Makes an event that is allowed, where it is such a word, and says whether it did.
@@ -115,7 +136,7 @@ fn put_back(nodes: &mut Vec<SmpNode<'_>>, used: &mut [Option<u8>; 16])
 }
 
 /// Makes the turns that an order picks next among the events that are listed, as long as each is a
-/// word by its micro-op and no message is on its way to its node. It gives the event that is picked
+/// word by its micro-op and its node takes no message behind it. It gives the event that is picked
 /// behind them, which isn't made, or `None` after many turns.
 pub(crate) fn run_silent(
     nodes: &mut Vec<SmpNode<'_>>,

@@ -12,10 +12,10 @@ ghost use Rattle.lane_model.specs.Core.{May};
 ghost use Rattle.lane_law.specs.Law.{AreAllOver};
 ghost use Rattle.smp_sim.specs.CoreParts.{AreStored, HasStampsInRange, core_with, event_of};
 ghost use Rattle.smp_sim.specs.CoreParts.{lane_work};
-ghost use Rattle.smp_sim.specs.CoreSteps.{AreFirst, HaveKept, HaveMade, HasNodeRoom};
+ghost use Rattle.smp_sim.specs.CoreSteps.{AreFirst, HaveKept, HaveMade, HasNodeRoom, TakeAway};
 
 use crate::cores::SmpEvent;
-use crate::node::SmpNode;
+use crate::node::{SmpNode, takes_away};
 use crate::work::SmpWork;
 use home_directory::dsm_messages::Sends;
 use lane_law::dsm_protocol::Queue;
@@ -141,6 +141,35 @@ pub(crate) fn has_mail(lists: &[Queue], count: u8, node: u8) -> bool
         }
     }
     false
+}
+
+/// Whether the first message from one node to another, where one is on its way, takes something of
+/// its block away.
+fn takes_away_first(lists: &[Queue], count: u8, from: u8, to: u8) -> bool
+    requires lists { AreQueues lists.now count }
+    requires from { from < count }
+    requires to { to < count }
+    ensures { result ≡ true → TakeAway (wires_of lists.now count from to) }
+{
+    match first_wire(lists, count, from, to) {
+        Some(wire) => takes_away(&wire.message),
+        None => true,
+    }
+}
+
+/// Whether the first message from each node does.
+pub(crate) fn all_take_away(lists: &[Queue], count: u8, node: u8) -> bool
+    requires lists { AreQueues lists.now count }
+    requires node { node < count }
+    ensures { result ≡ true
+        → (from : ℕ) → from < count → TakeAway (wires_of lists.now count from node) }
+{
+    for from in 0..count {
+        if !takes_away_first(lists, count, from, node) {
+            return false;
+        }
+    }
+    true
 }
 
 /// Makes room for an event of a node.

@@ -1,6 +1,5 @@
 -- The block of an address is one of the layout's.
 use Rattle.std.proofs.Common.{◌/◌, ◌∙◌, sym}
-use Rattle.block_layout.specs.Layout.{block_of}
 use Rattle.lane_machine.proofs.stored.end_reservations.Goals as goal
 
 pub clear-requires : goal.clear-requires

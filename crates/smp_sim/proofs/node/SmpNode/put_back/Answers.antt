@@ -4,13 +4,13 @@ use Rattle.smp_sim.specs.InUse.{RestsAs}
 use Rattle.smp_sim.proofs.NodesInUse.{before_low}
 use Rattle.smp_sim.proofs.node.SmpNode.put_back.Goals as goal
 
-pub swap_in_use-requires-clause-lane : goal.swap_in_use-requires-clause-lane
-swap_in_use-requires-clause-lane c =
+pub put_lane_back-requires-clause-lane : goal.put_lane_back-requires-clause-lane
+put_lane_back-requires-clause-lane c =
     let r = c.requires.node in
     (subst (λ o. RestsAs c.args.self.now o r.1) c.in-Some.is r.2).low
 
-pub swap_in_use-requires-clause-place : goal.swap_in_use-requires-clause-place
-swap_in_use-requires-clause-place c = λ l at.
+pub put_lane_back-requires-clause-place : goal.put_lane_back-requires-clause-place
+put_lane_back-requires-clause-place c = λ l at.
     let r = c.requires.node in
     before_low r.0 c.args.self.now c.in-Some.lane r.1 l r.3
     (subst (λ o. RestsAs c.args.self.now o r.1) c.in-Some.is r.2) at

@@ -4,16 +4,16 @@ use Rattle.smp_sim.specs.InUse.{RestsAs}
 use Rattle.smp_sim.proofs.NodesInUse.{number_low, put_in_use, same_is}
 use Rattle.smp_sim.proofs.node.SmpNode.put_in_use.Goals as goal
 
-pub swap_in_use-requires-clause-lane : goal.swap_in_use-requires-clause-lane
-swap_in_use-requires-clause-lane c =
+pub put_lane_in_use-requires-clause-lane : goal.put_lane_in_use-requires-clause-lane
+put_lane_in_use-requires-clause-lane c =
     let m = c.requires.may in
     let low = m.low in
     let count = m.is_node.lanes.count in
     let same = ap length (c.put_back.ensures.same m.rest m.rests).lanes in
     omega (arith, low, count, same)
 
-pub swap_in_use-requires-clause-place : goal.swap_in_use-requires-clause-place
-swap_in_use-requires-clause-place c = λ l at.
+pub put_lane_in_use-requires-clause-place : goal.put_lane_in_use-requires-clause-place
+put_lane_in_use-requires-clause-place c = λ l at.
     let m = c.requires.may in
     let x = c.put_back.new.self in
     let k = c.args.lane in
@@ -40,9 +40,8 @@ returns-clause-rests c = λ y r.
     let same = ap length kept.lanes in
     let below : k < length x.lanes.items = omega (arith, low, count, same) in (
       x,
-      put_in_use m.work x k c.index.result.now c.swap_in_use.new.self
+      put_in_use m.work x k c.index.result.now c.put_lane_in_use.new.self
           (same_is m.work m.rest x kept m.is_node) below c.index.ensures
-          (c.is_alone.ensures c.if-not-is_alone.false) c.swap_in_use.ensures.swapped
-          c.swap_in_use.ensures.back,
+          (c.is_alone.ensures c.if-not-is_alone.false) c.put_lane_in_use.ensures,
       c.put_back.ensures.same y r,
     )

@@ -1,14 +1,16 @@
 -- With more room it stands for the same.
 use Rattle.std.proofs.Common.{ap}
 use Rattle.lane_model.specs.Nodes.{Shared}
+use Rattle.lane_machine.specs.node_words.declared.exec_state.ExecState.{ExecState}
+use Rattle.lane_machine.specs.node_words.node_memory.Shelf.{ground_of}
 use Rattle.smp_sim.specs.CoreParts.{node_in}
 use Rattle.smp_sim.proofs.NodeLemmas.{same_node}
 use Rattle.smp_sim.proofs.node.SmpNode.room.Goals as goal
 
 pub returns-clause-is_node : goal.returns-clause-is_node
 returns-clause-is_node c = λ w is.
-    same_node w c.args.self.now c.room.new.self is c.room.ensures.places c.room.ensures.body
-    c.room.ensures.ended
+    same_node w c.args.self.now c.room.new.self is c.room.ensures.places
+    (ap (λ (b : ExecState). ground_of b.local) c.room.ensures.body) c.room.ensures.ended
 
 pub returns-clause-node : goal.returns-clause-node
 returns-clause-node c = λ w i.

@@ -1,0 +1,29 @@
+-- What was in use is the lane's then.
+use Rattle.lane_machine.specs.declared.stored.StoredLane.{StoredLane}
+use Rattle.lane_machine.proofs.InUseLemmas.{back_is, back_lane, put_back_is, shared_then}
+use Rattle.lane_machine.proofs.stored.StoredLane.put_back.Goals as goal
+
+pub returns : goal.returns
+returns c =
+    let l = c.args.self.now in
+    let f = c.args.shared.now in
+    let p = c.index_mut-own.result.now in
+    let x1 = c.deref_mut.result.now in
+    let x2 = c.deref_mut-2.result.now in
+    let left = c.move_state.new.from in
+    let s = c.swap_reservation.new.self in
+    let r = c.swap_reservation.new.other in
+    let at = c.index_mut-own.ensures.value in
+    let first = c.deref_mut.ensures.value in
+    let moved = c.deref_mut-2.ensures.value in
+    let local = c.swap_reservation.ensures.local in
+    let other = c.swap_reservation.ensures.other in
+    let m : StoredLane = record l { lane = c.move_state.new.to } in
+    let g = shared_then l f p x1 x2 left s r at first moved local other in
+    let back = put_back_is l f p x1 x2 left s r at first moved local other m.lane
+    c.move_state.ensures in
+    record {
+      back = back;
+      lane = back_lane l f m g back c.requires.lane;
+      shared = back_is l f m g back c.requires.number c.requires.shared;
+    }
