@@ -74,12 +74,16 @@ line_text most room base rows =
     codes "<polyline class='line' points='" ++ (corners_text most room base rows
     ++ codes "'/>\n")
 
+-- the number of a mark stands below it, or above it where it would meet the numbers of nodes
+abbrev pub beside : (y : ℕ) → ℕ
+beside y = if nat_le y 316 then y + 13 else y - 11
+
 -- the mark of a speed-up, with its number
 abbrev pub mark_at : (x y s : ℕ) → List ℕ
 mark_at x y s =
     numbered (codes "<circle class='mark' r='4' cx='") x ++ (numbered (codes "' cy='") y
     ++ (numbered (codes "'/><text class='value' x='") (x + 7)
-    ++ (numbered (codes "' y='") (y + 13) ++ (codes "'>" ++ (hundredths_text s
+    ++ (numbered (codes "' y='") (beside y) ++ (codes "'>" ++ (hundredths_text s
     ++ codes "</text>\n")))))
 
 abbrev pub mark_text : (most room nodes : ℕ) → Option ℕ → List ℕ

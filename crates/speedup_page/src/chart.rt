@@ -174,6 +174,15 @@ fn push_line(
     out.extend_from_slice(b"'/>\n")
 }
 
+/// How far down the number of a mark stands: below it, or above it where it would meet the numbers
+/// of nodes.
+fn beside(y: u128) -> u128
+    requires { y ≤ 336 }
+    ensures { result ≡ model.beside y }
+{
+    if y <= 316 { y + 13 } else { y - 11 }
+}
+
 /// Appends the mark of a speed-up, at this place, with its number.
 fn push_mark_at(out: &mut Vec<u8>, x: u128, y: u128, hundredths: u128) -> Result<(), AllocError>
     requires x { x < 2 ^ 64 }
@@ -183,7 +192,7 @@ fn push_mark_at(out: &mut Vec<u8>, x: u128, y: u128, hundredths: u128) -> Result
     push_numbered(out, b"<circle class='mark' r='4' cx='", x)?;
     push_numbered(out, b"' cy='", y)?;
     push_numbered(out, b"'/><text class='value' x='", x + 7)?;
-    push_numbered(out, b"' y='", y + 13)?;
+    push_numbered(out, b"' y='", beside(y))?;
     out.extend_from_slice(b"'>")?;
     push_hundredths(out, hundredths)?;
     out.extend_from_slice(b"</text>\n")

@@ -1,3 +1,5 @@
+use Rattle.std.proofs.Common.{◌++◌, ◌∙◌, ap, codes}
+use Rattle.speedup_page.specs.Rows.{numbered}
 use Rattle.speedup_page.proofs.Chains.{ok_behind, ok_last}
 use Rattle.speedup_page.proofs.chart.push_mark_at.Goals as goal
 
@@ -14,7 +16,8 @@ returns c =
     ok_behind r old s1 _ _ _ c.in_ok-push_numbered.ensures
     (ok_behind r s1 s2 _ _ _ c.in_ok-push_numbered-2.ensures
     (ok_behind r s2 s3 _ _ _ c.in_ok-push_numbered-3.ensures
-    (ok_behind r s3 s4 _ _ _ c.in_ok-push_numbered-4.ensures
+    (ok_behind r s3 s4 _ _ _
+    (c.in_ok-push_numbered-4.ensures ∙ ap (λ n. s3 ++ numbered (codes "' y='") n) c.beside.ensures)
     (ok_behind r s4 s5 _ _ _ c.in_ok-extend_from_slice.ensures.items
     (ok_behind r s5 s6 _ _ _ c.in_ok-push_hundredths.ensures
     (ok_last r s6 _ _ c.extend_from_slice-2.ensures.items))))))
