@@ -14,7 +14,7 @@ use Rattle.run_order.specs.node_model.Core.{Core, Exec, May, may_execute, wires_
 use Rattle.node_machine.specs.declared.node_state.NodeState.{NodeState}
 use Rattle.node_machine.specs.NodeState.{node_of, work_of as work_at}
 use Rattle.node_machine.specs.Runs.{HasExecuted, GoesOnBy as HasGoneBy}
-use Rattle.node_machine.specs.node_words.Visits.{AreCounted, WordVisits}
+use Rattle.node_machine.specs.word_visits.Visits.{AreCounted, WordVisits}
 use Rattle.rewriting_law.specs.dsm_protocol.Queue.{Queue, SameWires, IsSent}
 use Rattle.dsm_core.specs.CoreParts.{core_with, GoesOnTo}
 use Rattle.dsm_core.specs.CoreWords.{GoesOnBy, HasExecutedOn, HasPassed, HasPassedWords}

@@ -5,9 +5,9 @@ use Rattle.run_order.specs.node_model.Node.{Work, Node, opening_node, can_execut
 use Rattle.run_order.specs.node_model.Core.{Core, Event, Exec, Take, May, event_step, AreAlike}
 use Rattle.node_machine.specs.declared.node_state.NodeState.{NodeState}
 use Rattle.node_machine.specs.NodeState.{node_of, work_of as work_at, HasRoom}
-use Rattle.node_machine.specs.node_words.declared.visits.Visits.{Visits}
-use Rattle.node_machine.specs.node_words.Visits.{AreCounted, WordVisits}
-use Rattle.node_machine.specs.node_words.VisitTables.{AreVisitsIn}
+use Rattle.node_machine.specs.word_visits.declared.visits.Visits.{Visits}
+use Rattle.node_machine.specs.word_visits.Visits.{AreCounted, WordVisits}
+use Rattle.node_machine.specs.word_visits.VisitTables.{AreVisitsIn}
 use Rattle.rewriting_law.specs.dsm_protocol.Queue.{Queue, wires_of}
 use Rattle.dsm_core.specs.CoreParts.{core_with, HaveWork, GoesOnTo}
 use Rattle.dsm_core.specs.CoreWords.{HasExecutedOn, HasPassed, HasPassedWords}

@@ -1,7 +1,8 @@
 -- Words of one node of a core, one after another.
-use Rattle.std.specs.Prelude.{◌≡◌, ℕ, zero, suc, ◌+◌, ◌<◌}
+use Rattle.std.specs.Prelude.{◌≡◌, ℕ, zero, suc, ◌+◌, ◌<◌, List}
 use Rattle.run_order.specs.node_model.Node.{Work}
 use Rattle.node_machine.specs.Runs.{GoesOnBy as NodeGoesOnBy}
+use Rattle.node_machine.specs.word_visits.Tallies.{AreTallied, WordTally, steps_of}
 use Rattle.run_order.specs.node_model.Turns.{silent, word_turn}
 use Rattle.run_order.specs.node_model.Core.{Core, Exec, May, AreAlike, event_step}
 
@@ -42,3 +43,14 @@ pub record HaveEachPassed (work : Work) (words : ℕ → ℕ) (c d : Core) : Typ
   pub nodes : (i : ℕ) → i < work.layout.nodes → NodeGoesOnBy work (words i) (c.nodes i) (d.nodes i)
   pub may : (i : ℕ) → May work c (Exec i) → May work d (Exec i)
   pub lists : (j i : ℕ) → j < work.layout.nodes → i < work.layout.nodes → d.list j i ≡ c.list j i
+
+-- of each node so many next words, by number, are tallied
+abbrev pub AreEachTallied : Work → (words : ℕ → ℕ) → Core → List WordTally → Type 0
+AreEachTallied work words c ts =
+    (i : ℕ) → i < work.layout.nodes → AreTallied work (words i) (c.nodes i) ts
+
+-- how many of so many next words of each node below a number count
+abbrev pub steps_below : Work → (words : ℕ → ℕ) → ℕ → Core → List WordTally → ℕ
+steps_below work words zero c ts = 0
+steps_below work words (suc k) c ts =
+    steps_below work words k c ts + steps_of work (words k) (c.nodes k) ts

@@ -14,10 +14,11 @@ ghost use Rattle.rewriting_law.specs.dsm_protocol.Buffers.{AreInOnePlace};
 ghost use Rattle.dsm_core.specs.CoreParts.{work_of, work_in, core_of, event_of, AreParts, GoesOnTo};
 ghost use Rattle.dsm_core.specs.CoreParts.{HasStampsInRange};
 ghost use Rattle.dsm_core.specs.CoreWords.{HasPassed, HasPassedWords, HasExecutedOn};
-ghost use Rattle.dsm_core.specs.CoreWords.{HaveEachPassed};
+ghost use Rattle.dsm_core.specs.CoreWords.{AreEachTallied, HaveEachPassed, steps_below};
 ghost use Rattle.dsm_core.specs.CoreSteps.{GoesOnFor};
-ghost use Rattle.node_machine.specs.node_words.Visits.{AreCounted};
-ghost use Rattle.node_machine.specs.node_words.VisitTables.{AreVisitsIn, StayVisits, visits_of};
+ghost use Rattle.node_machine.specs.word_visits.Visits.{AreCounted};
+ghost use Rattle.node_machine.specs.word_visits.TallyTables.{AreTalliesIn, tallies_of};
+ghost use Rattle.node_machine.specs.word_visits.VisitTables.{AreVisitsIn, StayVisits, visits_of};
 ghost use Rattle.dsm_core.specs.Seen.{IsFirstIn, IsSeen};
 ghost use Rattle.node_machine.specs.NodeState.{node_of, work_of as work_at};
 
@@ -27,7 +28,7 @@ use crate::steps::first_nodes;
 use crate::undo_logs::{StoppedEarly, UndoLogs};
 use crate::work::Work;
 use block_layout::{Layout, layout_law};
-use node_machine::{Node, Visits};
+use node_machine::{Node, Tallies, Visits};
 use rewriting_law::dsm_messages::Sends;
 use rewriting_law::dsm_protocol::buffer_law;
 use rewriting_law::dsm_protocol::lists::empty_lists;
@@ -277,6 +278,37 @@ impl<'a> Core<'a> {
     {
         self.bounds();
         self.parts.run_each_undoable(words, undo_logs)
+    }
+
+    /// Each node executes so many words, by its number, where their micro-ops serve all of them
+    /// and all are tallied, and the answer gives how many of them count, of all nodes together.
+    /// Such words print nothing and send nothing, and a node that may execute a word still may.
+    /// Otherwise nothing changes, and the answer tells a node that stopped early.
+    pub fn run_each_counting(
+        &mut self,
+        words: &[u32; 16],
+        undo_logs: &mut UndoLogs,
+        tallies: &Tallies,
+    ) -> Result<u64, StoppedEarly>
+        requires undo_logs { undo_logs.old ≡ self.old.layout.nodes }
+        requires nodes { self.old.layout.nodes ≤ 16 }
+        requires enabled { (i : ℕ) → i < self.old.layout.nodes
+            → 1 ≤ slice_index_or words.now i 0
+            → May (work_of self.old) (core_of self.old) (model.Exec i) }
+        requires table { AreTalliesIn (work_of self.old).image tallies.now }
+        ensures passed { IfOk result (λ steps. HaveEachPassed (work_of self.old)
+            (λ i. slice_index_or words.now i 0) (core_of self.old) (core_of self.new)) }
+        ensures tallied { IfOk result (λ steps. AreEachTallied (work_of self.old)
+            (λ i. slice_index_or words.now i 0) (core_of self.old) (tallies_of tallies.now)) }
+        ensures steps { IfOk result (λ steps. steps ≡ steps_below (work_of self.old)
+            (λ i. slice_index_or words.now i 0) self.old.layout.nodes (core_of self.old)
+            (tallies_of tallies.now)) }
+        ensures kept { OnErr result (core_of self.new ≡ core_of self.old) }
+        ensures undo_logs { undo_logs.new ≡ undo_logs.old }
+        ensures work { work_of self.new ≡ work_of self.old }
+    {
+        self.bounds();
+        self.parts.run_each_counting(words, undo_logs, tallies)
     }
 
     /// Executes words of a node, of which those before the last print nothing and send nothing, and

@@ -5,11 +5,12 @@ ghost use Rattle.std.specs.Prelude.{slice_index_or, MatchOption};
 ghost use Rattle.run_order.specs.node_model.Core as model;
 ghost use Rattle.run_order.specs.node_model.Core.{May, IsOver, AreAlike, event_step};
 ghost use Rattle.node_machine.specs.NodeState.{node_of, work_of as work_at};
-ghost use Rattle.node_machine.specs.node_words.Visits.{AreCounted};
-ghost use Rattle.node_machine.specs.node_words.VisitTables.{AreVisitsIn, StayVisits, visits_of};
+ghost use Rattle.node_machine.specs.word_visits.Visits.{AreCounted};
+ghost use Rattle.node_machine.specs.word_visits.TallyTables.{AreTalliesIn, tallies_of};
+ghost use Rattle.node_machine.specs.word_visits.VisitTables.{AreVisitsIn, StayVisits, visits_of};
 ghost use Rattle.dsm_core.specs.CoreParts.{work_of, core_of, event_of, AreParts, HasStampsInRange};
 ghost use Rattle.dsm_core.specs.CoreWords.{HasPassed, HasPassedWords, HasExecutedOn};
-ghost use Rattle.dsm_core.specs.CoreWords.{HaveEachPassed};
+ghost use Rattle.dsm_core.specs.CoreWords.{AreEachTallied, HaveEachPassed, steps_below};
 ghost use Rattle.dsm_core.specs.Seen.{IsFirstIn, IsSeen};
 
 use crate::cores::Event;
@@ -18,11 +19,11 @@ use crate::steps::{
     are_over, exec_silent, has_mail, has_wire, is_enabled, make, run_silent, run_until_send,
     run_visiting,
 };
-use crate::undo_logs::{StoppedEarly, UndoLogs, run_each_undoable};
+use crate::undo_logs::{StoppedEarly, UndoLogs, run_each_counting, run_each_undoable};
 use block_layout::Layout;
 use node_machine::exec_map::Program;
 use node_machine::jump_map::Image;
-use node_machine::{Node, Visits};
+use node_machine::{Node, Tallies, Visits};
 use rewriting_law::dsm_messages::Sends;
 use rewriting_law::dsm_protocol::Queue;
 use run_limits::Budget;
@@ -219,6 +220,44 @@ impl<'a> Parts<'a> {
     {
         let count = self.layout.nodes();
         run_each_undoable(&mut self.nodes, &mut undo_logs.undo_logs, count, words)
+    }
+
+    /// Each node executes so many words, by its number, where their micro-ops serve all of them
+    /// and all are tallied, and the answer gives how many of them count; otherwise nothing changes.
+    pub(crate) fn run_each_counting(
+        &mut self,
+        words: &[u32; 16],
+        undo_logs: &mut UndoLogs,
+        tallies: &Tallies,
+    ) -> Result<u64, StoppedEarly>
+        requires parts { AreParts self.old }
+        requires range { HasStampsInRange self.old.layout.nodes (core_of self.old) }
+        requires undo_logs { undo_logs.old ≡ self.old.layout.nodes }
+        requires nodes { self.old.layout.nodes ≤ 16 }
+        requires enabled { (i : ℕ) → i < self.old.layout.nodes
+            → 1 ≤ slice_index_or words.now i 0
+            → May (work_of self.old) (core_of self.old) (model.Exec i) }
+        requires table { AreTalliesIn (work_of self.old).image tallies.now }
+        ensures parts { AreParts self.new }
+        ensures work { work_of self.new ≡ work_of self.old }
+        ensures passed { IfOk result (λ steps. HaveEachPassed (work_of self.old)
+            (λ i. slice_index_or words.now i 0) (core_of self.old) (core_of self.new)) }
+        ensures tallied { IfOk result (λ steps. AreEachTallied (work_of self.old)
+            (λ i. slice_index_or words.now i 0) (core_of self.old) (tallies_of tallies.now)) }
+        ensures steps { IfOk result (λ steps. steps ≡ steps_below (work_of self.old)
+            (λ i. slice_index_or words.now i 0) self.old.layout.nodes (core_of self.old)
+            (tallies_of tallies.now)) }
+        ensures kept { OnErr result (core_of self.new ≡ core_of self.old) }
+        ensures undo_logs { undo_logs.new ≡ undo_logs.old }
+    {
+        let count = self.layout.nodes();
+        run_each_counting(
+            &mut self.nodes,
+            &mut undo_logs.undo_logs,
+            count,
+            words,
+            tallies,
+        )
     }
 
     /// A node executes words, of which those before the last print nothing and send nothing.

@@ -12,7 +12,7 @@ ghost use Rattle.run_order.specs.node_model.Core.{IsOver};
 ghost use Rattle.dsm_core.specs.CoreSteps.{SameNodes, SameWorks, HasNodeRoom, CanExecute, HaveMade};
 ghost use Rattle.dsm_core.specs.CoreSteps.{HaveKept, HavePassed, HaveExecutedOn, AreFirst, CanMake};
 ghost use Rattle.dsm_core.specs.CoreSteps.{HaveCounted, HavePassedWords, HaveVisits};
-ghost use Rattle.node_machine.specs.node_words.VisitTables.{StayVisits, visits_of};
+ghost use Rattle.node_machine.specs.word_visits.VisitTables.{StayVisits, visits_of};
 
 use crate::cores::Event;
 use crate::work;

@@ -2,11 +2,13 @@
 
 ghost use Rattle.std.specs.Prelude.{◌≡◌, ◌<◌, ◌≤◌, ℕ, List, IfOk, OnErr, length, slice_index_or};
 ghost use Rattle.node_machine.specs.declared.node_state.NodeState.{NodeState};
+ghost use Rattle.node_machine.specs.word_visits.TallyTables.{tallies_of};
 ghost use Rattle.run_order.specs.node_model.Node as model;
 ghost use Rattle.dsm_core.specs.CoreSteps.{SameWorks, MayExecute, IsStamped};
 ghost use Rattle.dsm_core.specs.UndoLogs.{HaveGone, TakeBack, AreSameBelow, AreSameFrom};
+ghost use Rattle.dsm_core.specs.TalliedNodes.{HaveStepped, HaveTallied, HaveTallies};
 
-use node_machine::{Node, NodeUndoLog};
+use node_machine::{Node, NodeUndoLog, Tallies};
 use std::alloc::{AllocError, Global};
 use std::marker::Model;
 
@@ -77,6 +79,51 @@ pub(crate) fn run_each_undoable(
         }
     }
     Ok(())
+}
+
+/// Each node executes so many words, by its number, where their micro-ops serve all of them and all
+/// are tallied, and the answer gives how many of them count. Otherwise nothing changes, and the
+/// answer tells a node that stopped early.
+pub(crate) fn run_each_counting(
+    nodes: &mut Vec<Node<'_>>,
+    undo_logs: &mut Vec<NodeUndoLog>,
+    count: u8,
+    words: &[u32; 16],
+    tallies: &Tallies,
+) -> Result<u64, StoppedEarly>
+    requires count { length nodes.old.items ≡ count }
+    requires undo_logs { length undo_logs.old.items ≡ count }
+    requires few { count ≤ 16 }
+    requires may { (i : ℕ) → i < count → 1 ≤ slice_index_or words.now i 0
+        → MayExecute nodes.old.items i }
+    requires stamp { (i : ℕ) → i < count → IsStamped nodes.old.items i }
+    requires table { HaveTallies nodes.old.items tallies.now }
+    ensures count { length nodes.new.items ≡ count }
+    ensures undo_logs { length undo_logs.new.items ≡ count }
+    ensures works { SameWorks nodes.old.items nodes.new.items }
+    ensures passed { IfOk result (λ steps. HaveGone (λ i. slice_index_or words.now i 0) count
+        nodes.old.items nodes.new.items) }
+    ensures tallied { IfOk result (λ steps. HaveTallied (λ i. slice_index_or words.now i 0) count
+        nodes.old.items (tallies_of tallies.now)) }
+    ensures steps { IfOk result (HaveStepped (λ i. slice_index_or words.now i 0) count
+        nodes.old.items (tallies_of tallies.now)) }
+    ensures kept { OnErr result (AreSameBelow count nodes.old.items nodes.new.items) }
+{
+    let mut steps = 0;
+    for node in 0..count {
+        let most = words[node as usize];
+        let made = nodes[node as usize].run_counting(most, tallies, &mut undo_logs[node as usize]);
+        if made.words < u64::from(most) {
+            let stop = StoppedEarly {
+                node,
+                words: made.words,
+            };
+            take_back(nodes, undo_logs, stop.node + 1);
+            return Err(stop);
+        }
+        steps += made.steps;
+    }
+    Ok(steps)
 }
 
 /// Takes back the words of the nodes below a number.

@@ -11,7 +11,7 @@ use Rattle.elf32_read.specs.Elf.{Elf}
 use Rattle.block_layout.specs.Update.{changed}
 use Rattle.block_layout.specs.Layout.{Shape, IsValid, AreRanges, blocks, home, lines, first_line, block_of, is_in, is_among, is_shared as is_shared_line}
 use Rattle.block_layout.specs.declared.ranges.Lines.{Lines}
-use Rattle.node_words.specs.exec_map.Contents.{program_of, class_of_line, first_byte, first_bytes, is_private, is_read_only, is_shared, AreRangesOf}
+use Rattle.word_visits.specs.node_words.exec_map.Contents.{program_of, class_of_line, first_byte, first_bytes, is_private, is_read_only, is_shared, AreRangesOf}
 use Rattle.rv32_program.specs.declared.Class.{Class}
 use Rattle.rv32_program.specs.declared.Class.TheVariants as class
 use Rattle.rv32_program.specs.Program.{IsAccepted}
@@ -21,16 +21,16 @@ use Rattle.state_table.specs.declared.classes.LineClass.{LineClass}
 use Rattle.state_table.specs.LineClasses.{class_byte, AreClasses}
 use Rattle.state_table.specs.StateByte.{byte_of}
 use Rattle.state_table.specs.States.{States, state_of, line_byte}
-use Rattle.node_words.specs.flag_memory.Copy.{Copy, bytes_of, CopyLaws}
-use Rattle.node_words.specs.flag_memory.Flag.{flag_byte, flags}
-use Rattle.node_words.specs.home_directory.Home.{first_entry}
-use Rattle.node_words.specs.home_directory.Effects.{Directory, entry_at, members}
+use Rattle.word_visits.specs.node_words.flag_memory.Copy.{Copy, bytes_of, CopyLaws}
+use Rattle.word_visits.specs.node_words.flag_memory.Flag.{flag_byte, flags}
+use Rattle.word_visits.specs.node_words.home_directory.Home.{first_entry}
+use Rattle.word_visits.specs.node_words.home_directory.Effects.{Directory, entry_at, members}
 use Rattle.node_machine.specs.NodeState.{entries_in}
-use Rattle.node_words.specs.node_model.Node.{IsLaidOver, first_state, is_at_home}
-use Rattle.node_words.specs.node_memory.Shelf.{copy_of, HasSharedLines}
+use Rattle.word_visits.specs.node_words.node_model.Node.{IsLaidOver, first_state, is_at_home}
+use Rattle.word_visits.specs.node_words.node_memory.Shelf.{copy_of, HasSharedLines}
 use Rattle.node_machine.specs.Opening.{AreFixedClasses, read_only_class, window_class, classes_of, block_bytes, opening_state, opening_bytes}
 use Rattle.node_machine.proofs.BlockLemmas.{LineLaws, is_out, byte_in, byte_out, byte_at_block, flag_out}
-use Rattle.node_words.proofs.node_memory.MemoryLemmas.{private_line, not_window}
+use Rattle.word_visits.proofs.words.node_memory.MemoryLemmas.{private_line, not_window}
 
 -- 1. The classes of the lines that aren't shared
 

@@ -6,25 +6,25 @@ use Rattle.std.proofs.lemmas.List.{get_or-set_same, get_or-set_other}
 use Rattle.std.proofs.lemmas.Bool.Decides.{eqb_tells, nat_tests}
 use Rattle.block_layout.specs.Layout.{Shape, blocks}
 use Rattle.block_layout.specs.Update.{changed}
-use Rattle.node_words.specs.dsm_messages.declared.messages.Message.{Message}
-use Rattle.node_words.specs.dsm_messages.declared.messages.Message.TheVariants.{Read, Write, FwdRead, FwdWrite, Inval, Data, Grant, Ack, Done, Bye}
-use Rattle.node_words.specs.dsm_messages.declared.messages.Post.{Post}
-use Rattle.node_words.specs.dsm_messages.declared.messages.Wire.{Wire}
-use Rattle.node_words.specs.home_directory.Effects.{members}
-use Rattle.node_words.specs.home_directory.Home.{count_of}
-use Rattle.node_words.specs.miss_handlers.Rows.{row_of}
-use Rattle.node_words.specs.miss_handlers.Waits.{NodeWaits, AreWaits, wait_of}
+use Rattle.word_visits.specs.node_words.dsm_messages.declared.messages.Message.{Message}
+use Rattle.word_visits.specs.node_words.dsm_messages.declared.messages.Message.TheVariants.{Read, Write, FwdRead, FwdWrite, Inval, Data, Grant, Ack, Done, Bye}
+use Rattle.word_visits.specs.node_words.dsm_messages.declared.messages.Post.{Post}
+use Rattle.word_visits.specs.node_words.dsm_messages.declared.messages.Wire.{Wire}
+use Rattle.word_visits.specs.node_words.home_directory.Effects.{members}
+use Rattle.word_visits.specs.node_words.home_directory.Home.{count_of}
+use Rattle.word_visits.specs.node_words.miss_handlers.Rows.{row_of}
+use Rattle.word_visits.specs.node_words.miss_handlers.Waits.{NodeWaits, AreWaits, wait_of}
 use Rattle.rv32_program.specs.declared.End.TheVariants.{Stopped}
-use Rattle.node_words.specs.declared.exec_state.ExecState.{ExecState}
+use Rattle.word_visits.specs.node_words.declared.exec_state.ExecState.{ExecState}
 use Rattle.node_machine.specs.declared.protocol_state.ProtocolState.{ProtocolState}
 use Rattle.node_machine.specs.declared.node_state.NodeState.{NodeState}
-use Rattle.node_words.specs.node_model.declared.Entry.{Entry}
-use Rattle.node_words.specs.node_model.declared.NodeCounts.{NodeCounts}
-use Rattle.node_words.specs.node_model.Node.{Node, Work, NodeMemory, Phase, Running, Resumed, Waiting, Ended, tally_resumed}
-use Rattle.node_words.specs.node_model.Turns.{Turn, handled, journaled, later, resumed, has_no_wait, after_message, take_turn, with_byes, is_ended, by_row_or, holding, words_before}
+use Rattle.word_visits.specs.node_words.node_model.declared.Entry.{Entry}
+use Rattle.word_visits.specs.node_words.node_model.declared.NodeCounts.{NodeCounts}
+use Rattle.word_visits.specs.node_words.node_model.Node.{Node, Work, NodeMemory, Phase, Running, Resumed, Waiting, Ended, tally_resumed}
+use Rattle.word_visits.specs.node_words.node_model.Turns.{Turn, handled, journaled, later, resumed, has_no_wait, after_message, take_turn, with_byes, is_ended, by_row_or, holding, words_before}
 use Rattle.node_machine.specs.NodeState.{work_of, node_of, layout_of, with_all, phase_resumed, lane_after_wait, counts_after_wait, AreCountsBelow, WaitsInPhase}
 use Rattle.node_machine.specs.ProtocolState.{turn_by}
-use Rattle.node_words.specs.node_memory.Shelf.{local_of}
+use Rattle.word_visits.specs.node_words.node_memory.Shelf.{local_of}
 use Rattle.node_machine.proofs.NodeStateLemmas.{counts_up, tally_below}
 use Rattle.node_machine.proofs.WaitLemmas.{waits_count}
 

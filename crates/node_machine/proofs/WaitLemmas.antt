@@ -3,10 +3,10 @@ use Rattle.std.proofs.Common.{◌≡◌, ◌≢◌, ℕ, zero, suc, ◌+◌, ◌
 use Rattle.std.specs.Prelude.{is_some}
 use Rattle.std.proofs.lemmas.Bool.Decides.{eqb_tells, nat_tests}
 use Rattle.block_layout.specs.Layout.{Shape, blocks}
-use Rattle.node_words.specs.home_directory.declared.wait.Wait.{Wait}
-use Rattle.node_words.specs.home_directory.Home.{count_of}
-use Rattle.node_words.specs.miss_handlers.declared.Waiting.{Waiting}
-use Rattle.node_words.specs.miss_handlers.Waits.{wait_in, AreWaits}
+use Rattle.word_visits.specs.node_words.home_directory.declared.wait.Wait.{Wait}
+use Rattle.word_visits.specs.node_words.home_directory.Home.{count_of}
+use Rattle.word_visits.specs.node_words.miss_handlers.declared.Waiting.{Waiting}
+use Rattle.word_visits.specs.node_words.miss_handlers.Waits.{wait_in, AreWaits}
 
 count_alike : (p q : ℕ → Bool) (n : ℕ) → ((i : ℕ) → i < n → p i ≡ q i) → count_of p n ≡ count_of q n
 count_alike p q zero h = refl

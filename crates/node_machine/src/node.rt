@@ -5,22 +5,24 @@ ghost use Rattle.std.specs.Prelude.{OnOk, if◌then◌else◌, length, option_an
 ghost use Rattle.std.specs.Prelude.{MatchOption, Some, IfSome};
 ghost use Rattle.block_layout.specs.Layout.{blocks};
 ghost use Rattle.rv32_decode.specs.Widths.{width_of, is_aligned};
-ghost use Rattle.node_words.specs.rv32_step.Registers.{registers_of};
-ghost use Rattle.node_words.specs.rv32_step.Memory.{load_value};
-ghost use Rattle.node_words.specs.jump_map.declared.image.ImageWord.{ImageWord};
-ghost use Rattle.node_words.specs.exec_map.Contents.{program_of};
-ghost use Rattle.node_words.specs.jump_map.Maps.{fetch};
-ghost use Rattle.node_words.specs.home_directory.Effects.{members};
-ghost use Rattle.node_words.specs.home_directory.Home.{count_of};
-ghost use Rattle.node_words.specs.node_model.Node as model;
-ghost use Rattle.node_words.specs.node_model.Turns as turns;
+ghost use Rattle.word_visits.specs.node_words.rv32_step.Registers.{registers_of};
+ghost use Rattle.word_visits.specs.node_words.rv32_step.Memory.{load_value};
+ghost use Rattle.word_visits.specs.node_words.jump_map.declared.image.ImageWord.{ImageWord};
+ghost use Rattle.word_visits.specs.node_words.exec_map.Contents.{program_of};
+ghost use Rattle.word_visits.specs.node_words.jump_map.Maps.{fetch};
+ghost use Rattle.word_visits.specs.node_words.home_directory.Effects.{members};
+ghost use Rattle.word_visits.specs.node_words.home_directory.Home.{count_of};
+ghost use Rattle.word_visits.specs.node_words.node_model.Node as model;
+ghost use Rattle.word_visits.specs.node_words.node_model.Turns as turns;
 ghost use Rattle.node_machine.specs.Wanted.{wanted_in, wants_of_word};
 ghost use Rattle.node_machine.specs.NodeState.{node_of, work_of, HasRoom};
 ghost use Rattle.node_machine.specs.Runs.{HasExecuted, GoesOnBy};
 ghost use Rattle.node_machine.specs.Touch.{IsTouch};
 ghost use Rattle.node_machine.specs.UndoLogs.{TakesNodeBack};
-ghost use Rattle.node_words.specs.Visits.{AreCounted};
-ghost use Rattle.node_words.specs.VisitTables.{AreVisitsIn, StayVisits, visits_of};
+ghost use Rattle.word_visits.specs.Visits.{AreCounted};
+ghost use Rattle.word_visits.specs.VisitTables.{AreVisitsIn, StayVisits, visits_of};
+ghost use Rattle.word_visits.specs.Tallies.{AreTallied, steps_of};
+ghost use Rattle.word_visits.specs.TallyTables.{AreTalliesIn, tallies_of};
 ghost use Rattle.node_machine.specs.declared.node_state.NodeState.{NodeState as Stored};
 
 use crate::node_state::{NodeState, Turn, WordTurn};
@@ -30,24 +32,25 @@ use crate::protocol_state::ProtocolState;
 use crate::snapshot::Snapshot;
 use crate::states::{LaneState, SharedState};
 use crate::touch::Touch;
-use crate::undo_log::NodeUndoLog;
+use crate::undo_log::{NodeUndoLog, WordsMade};
 use block_layout::{Block, Layout, layout_law};
 use buf_pool::Pool;
-use node_words::byte_range::Window;
-use node_words::dsm_messages::{Sends, Wire};
-use node_words::exec_map::{End, Program};
-use node_words::home_directory::{Busy, Directory, Wait};
-use node_words::jump_map::{Image, ImageWord};
-use node_words::miss_handlers::{BUFFER_BYTES, WAITS, Waits};
-use node_words::node_model::{Entry, NodeCounts, OutByte, Standing};
-use node_words::runtime_words::RtWord;
-use node_words::rv32_step::Registers;
-use node_words::{ExecState, ProcessorState, StoreLog, Visits, address_of, index_of};
 use run_limits::Budget;
 use rv32_decode::LoadKind;
 use state_table::State;
 use std::alloc::{AllocError, Global};
 use std::marker::Model;
+use word_visits::node_words::byte_range::Window;
+use word_visits::node_words::dsm_messages::{Sends, Wire};
+use word_visits::node_words::exec_map::{End, Program};
+use word_visits::node_words::home_directory::{Busy, Directory, Wait};
+use word_visits::node_words::jump_map::{Image, ImageWord};
+use word_visits::node_words::miss_handlers::{BUFFER_BYTES, WAITS, Waits};
+use word_visits::node_words::node_model::{Entry, NodeCounts, OutByte, Standing};
+use word_visits::node_words::runtime_words::RtWord;
+use word_visits::node_words::rv32_step::Registers;
+use word_visits::node_words::{ExecState, ProcessorState, StoreLog, address_of, index_of};
+use word_visits::{Tallies, Visits};
 
 /// A node that runs rewritten code of a program.
 #[derive(Drop)]
@@ -373,6 +376,33 @@ impl<'a> Node<'a> {
         ensures work { work_of self.new ≡ work_of self.old }
     {
         self.inner.run_undoable(most, undo_log)
+    }
+
+    /// Executes words as `run_undoable` does, as long as they are tallied, and gives how many there
+    /// are, and how many of them count.
+    pub fn run_counting(
+        &mut self,
+        most: u32,
+        tallies: &Tallies,
+        undo_log: &mut NodeUndoLog,
+    ) -> WordsMade
+        requires may { 1 ≤ most → model.can_execute (node_of self.old).phase ≡ true }
+        requires stamp { (node_of self.old).stamp < 2 ^ 56 }
+        requires table { AreTalliesIn (work_of self.old).image tallies.now }
+        ensures goes_on { GoesOnBy (work_of self.old) result.words (node_of self.old)
+            (node_of self.new) }
+        ensures tallied { AreTallied (work_of self.old) result.words (node_of self.old)
+            (tallies_of tallies.now) }
+        ensures steps { result.steps ≡ steps_of (work_of self.old) result.words (node_of self.old)
+            (tallies_of tallies.now) }
+        ensures may { model.can_execute (node_of self.old).phase ≡ true
+            → model.can_execute (node_of self.new).phase ≡ true }
+        ensures most { result.words ≤ most }
+        ensures part { result.steps ≤ result.words }
+        ensures back { TakesNodeBack undo_log.new self.new self.old }
+        ensures work { work_of self.new ≡ work_of self.old }
+    {
+        self.inner.run_counting(most, tallies, undo_log)
     }
 
     /// Takes back the words of an undo log.

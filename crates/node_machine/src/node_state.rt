@@ -3,12 +3,12 @@
 
 ghost use Rattle.std.specs.Prelude.{◌≡◌, ◌+◌, ◌^◌, ◌<◌, ◌≤◌, ◌++◌, ◌⊎◌};
 ghost use Rattle.std.specs.Prelude.{if◌then◌else◌, ℕ, [], true, false, None, Option, length};
-ghost use Rattle.node_words.specs.node_model.Node as model;
-ghost use Rattle.node_words.specs.node_model.Turns as turns;
-ghost use Rattle.node_words.specs.node_memory.Shelf.{ground_of, local_of};
-ghost use Rattle.node_words.specs.Kept.{wants_by};
-ghost use Rattle.node_words.specs.Visits.{AreCounted};
-ghost use Rattle.node_words.specs.VisitTables.{AreVisitsIn, StayVisits, visits_of};
+ghost use Rattle.word_visits.specs.node_words.node_model.Node as model;
+ghost use Rattle.word_visits.specs.node_words.node_model.Turns as turns;
+ghost use Rattle.word_visits.specs.node_words.node_memory.Shelf.{ground_of, local_of};
+ghost use Rattle.word_visits.specs.node_words.Kept.{wants_by};
+ghost use Rattle.word_visits.specs.Visits.{AreCounted};
+ghost use Rattle.word_visits.specs.VisitTables.{AreVisitsIn, StayVisits, visits_of};
 ghost use Rattle.node_machine.specs.Wanted.{wants_along, wanted_in, wants_of_word};
 ghost use Rattle.node_machine.specs.NodeState.{work_of, node_of, layout_of, with_parts, phase_of};
 ghost use Rattle.node_machine.specs.NodeState.{HasRoom, IsNode, IsProtocolState, AreCountsBelow};
@@ -20,9 +20,10 @@ use crate::phase::{Phase, phase_on};
 use crate::protocol_state::ProtocolState;
 use crate::states::{LaneState, SharedState};
 use crate::wanted::WantedBlocks;
-use node_words::dsm_messages::{Message, Post, Sends, Wire};
-use node_words::{ExecState, Following, Visits};
 use run_limits::STAMPS;
+use word_visits::node_words::dsm_messages::{Message, Post, Sends, Wire};
+use word_visits::node_words::{ExecState, Following};
+use word_visits::{Visits, run_visiting};
 
 /// What a node did in one event, but for what it sent.
 #[derive(Drop)]
@@ -149,8 +150,8 @@ impl<'a> NodeState<'a> {
         stretch.words
     }
 
-    /// Executes words one by one, as long as they print nothing, send nothing and count among the
-    /// visits: at most so many, fewer than the budget has left, and fewer than there are stamps
+    /// Executes words, as long as they print nothing, send nothing and count among the visits: at
+    /// most so many, fewer than the budget has left, and fewer than there are stamps
     /// left. It gives how many.
     pub fn run_visiting(&mut self, most: u64, visits: &mut Visits) -> u64
         requires node { IsNode self.old }
@@ -171,7 +172,8 @@ impl<'a> NodeState<'a> {
             self.lane.budget.number() - self.lane.executed - 1,
             STAMPS - self.shared.stamp - 1,
         );
-        let stretch = self.shared.body.run_visiting(
+        let stretch = run_visiting(
+            &mut self.shared.body,
             self.lane.image,
             self.lane.at,
             most_words(most, left),

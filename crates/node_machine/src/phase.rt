@@ -1,15 +1,15 @@
 //! Whether a processor runs, waits or has ended.
 
 ghost use Rattle.std.specs.Prelude.{◌≡◌};
-ghost use Rattle.node_words.specs.node_model.Node as model;
-ghost use Rattle.node_words.specs.node_model.Turns as turns;
-ghost use Rattle.node_words.specs.Kept.{phase_by};
-ghost use Rattle.node_words.specs.GoingOn.{phase_on};
+ghost use Rattle.word_visits.specs.node_words.node_model.Node as model;
+ghost use Rattle.word_visits.specs.node_words.node_model.Turns as turns;
+ghost use Rattle.word_visits.specs.node_words.Kept.{phase_by};
+ghost use Rattle.word_visits.specs.node_words.GoingOn.{phase_on};
 ghost use Rattle.node_machine.specs.NodeState.{phase_of};
 
-use node_words::exec_map::End;
-use node_words::{Following, Resume};
 use run_limits::Budget;
+use word_visits::node_words::exec_map::End;
+use word_visits::node_words::{Following, Resume};
 
 /// Whether a processor runs, has just got what it waited for, waits for blocks, or has ended.
 #[derive(Clone, Copy, PartialEq, Eq)]

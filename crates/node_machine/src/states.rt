@@ -3,24 +3,24 @@
 ghost use Rattle.std.specs.Prelude.{◌≡◌, ◌+◌, ◌-◌, ◌^◌, ◌<◌, ◌++◌, ◌∷◌, ◌==◌, [], OnOk};
 ghost use Rattle.std.specs.Prelude.{length, true};
 ghost use Rattle.std.specs.Vec.{vec_capacity};
-ghost use Rattle.node_words.specs.jump_map.Maps.{fetch};
-ghost use Rattle.node_words.specs.node_model.Node as model;
-ghost use Rattle.node_words.specs.node_model.Turns as turns;
-ghost use Rattle.node_words.specs.Address.{word_address};
-ghost use Rattle.node_words.specs.node_memory.Shelf.{local_of};
-ghost use Rattle.node_words.specs.Kept.{lane_of, phase_by};
+ghost use Rattle.word_visits.specs.node_words.jump_map.Maps.{fetch};
+ghost use Rattle.word_visits.specs.node_words.node_model.Node as model;
+ghost use Rattle.word_visits.specs.node_words.node_model.Turns as turns;
+ghost use Rattle.word_visits.specs.node_words.Address.{word_address};
+ghost use Rattle.word_visits.specs.node_words.node_memory.Shelf.{local_of};
+ghost use Rattle.word_visits.specs.node_words.Kept.{lane_of, phase_by};
 ghost use Rattle.node_machine.specs.NodeState.{phase_of, phase_resumed, lane_after_wait};
 ghost use Rattle.node_machine.specs.NodeState.{counts_after_wait, AreCountsBelow, IsLaneState};
 ghost use Rattle.node_machine.specs.States.{HasRoom};
 
 use crate::phase::{Phase, is_ended, phase_by, stop_or};
 use crate::protocol_state::ProtocolState;
-use node_words::exec_map::End;
-use node_words::jump_map::{Image, ImageWord};
-use node_words::node_model::{Entry, OutByte};
-use node_words::{ExecState, Served, address_of};
 use run_limits::Budget;
 use std::alloc::AllocError;
+use word_visits::node_words::exec_map::End;
+use word_visits::node_words::jump_map::{Image, ImageWord};
+use word_visits::node_words::node_model::{Entry, OutByte};
+use word_visits::node_words::{ExecState, Served, address_of};
 
 /// What is one processor's own, beside its registers: what it runs, and how far it is.
 #[derive(Drop)]

@@ -5,11 +5,10 @@ pub mod StrideLemmas
 pub mod UndoLogLemmas
 pub mod RegisterLemmas
 pub mod ReachLemmas
+pub mod AlongLemmas
 pub mod OneWord
 pub mod SequenceLemmas
 pub mod FlagLemmas
 pub mod HeadLemmas
 pub mod WholeLemmas
-pub mod VisitLemmas
-pub mod TableLemmas
 pub use Rattle.node_memory.proofs as node_memory

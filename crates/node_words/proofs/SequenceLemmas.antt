@@ -1,5 +1,5 @@
 -- Whole sequences: what their words do one after another.
-use Rattle.std.proofs.Common.{◌≡◌, ◌≢◌, ℕ, zero, suc, ◌+◌, ◌*◌, ◌/◌, ◌%◌, ◌^◌, ◌<◌, ◌≤◌, Bool, true, false, List, [], ◌∷◌, if◌then◌else◌, ◌==◌, refl, sym, ap, ◌∙◌, subst, arith}
+use Rattle.std.proofs.Common.{◌≡◌, ◌≢◌, ℕ, zero, suc, ◌+◌, ◌*◌, ◌/◌, ◌%◌, ◌^◌, ◌<◌, ◌≤◌, Bool, true, false, List, [], ◌∷◌, None, if◌then◌else◌, ◌==◌, refl, sym, ap, ◌∙◌, subst, arith}
 use Rattle.std.proofs.lemmas.Bool.Decides.{nat_tests}
 use Rattle.std.specs.Prelude.{bit_and}
 use Rattle.rv32_decode.specs.declared.Cond.{Cond}
@@ -26,7 +26,7 @@ use Rattle.node_memory.specs.node_model.Node.{ProcessorState, NodeMemory, byte_a
 use Rattle.node_words.specs.Address.{word_address}
 use Rattle.node_words.specs.Strides.{left_by_check}
 use Rattle.node_words.proofs.StepLemmas.{put_zero}
-use Rattle.node_words.proofs.ReachLemmas.{Code, Reaches, reaches_both}
+use Rattle.node_words.proofs.ReachLemmas.{Code, Crosses, Reaches, reaches_both}
 use Rattle.node_words.proofs.RegisterLemmas.{first_back, put_here, put_other, put_over, put_twice, reg_zero, second_back}
 use Rattle.node_words.proofs.OneWord.{branches_to, jumps_to, keeps, lane_at, loads_memory, loads_state, passes, sets, stores_memory, takes}
 
@@ -51,7 +51,7 @@ begins micros k ops op stand first =
 -- the five words that read the state byte of a line
 pub look_reaches : (c : Code) (k a : ℕ) (x : Scratch) (l : ProcessorState) (m : NodeMemory) (f g : ℕ → ℕ) → AreApart x
     → StandFrom c.micros k (state_look x.s x.t x.base x.imm) → a ≡ (reg f x.base + x.imm) % 2 ^ 32
-    → Reaches c 5 (lane_at l f g k) m (lane_at l (put (put f x.s (m.state (a / 64))) x.t 0x80000000) g (k + 5)) m
+    → Reaches c k 5 (lane_at l f g k) m (lane_at l (put (put f x.s (m.state (a / 64))) x.t 0x80000000) g (k + 5)) m
 unfolding alu
 look_reaches c k a x l m f g n look is =
     let s = x.s in
@@ -80,12 +80,12 @@ look_reaches c k a x l m f g n look is =
     let five = loads_state c (k + 4) (k + 5) (op_of kind.LoadByteU s s 0 0) s (a / 64) l m f4 g f5 (omega arith)
     (look 4 _ refl) (ap (λ (v : ℕ). Demands (Loads load_kind.ByteU s v)) address) (omega (arith, small))
     (sym (put_over f s t (0x80000000 + a / 64) 0x80000000 (m.state (a / 64)) n.s_t)) in
-    reaches_both 4 1 5 refl (reaches_both 3 1 4 refl (reaches_both 2 1 3 refl (reaches_both 1 1 2 refl one two) three) four)
+    reaches_both 4 1 5 refl refl (reaches_both 3 1 4 refl refl (reaches_both 2 1 3 refl refl (reaches_both 1 1 2 refl refl one two) three) four)
     five
 
 -- past the check, where a register is zero
 pub skips : (c : Code) (k to s : ℕ) (l : ProcessorState) (m : NodeMemory) (f g : ℕ → ℕ) → StandsAt c.micros k (skip s to)
-    → reg f s ≡ 0 → Reaches c 1 (lane_at l f g k) m (lane_at l f g to) m
+    → reg f s ≡ 0 → Reaches c k 1 (lane_at l f g k) m (lane_at l f g to) m
 unfolding taken
 skips c k to s l m f g stands none =
     branches_to c k to (skip s to) l m f g stands
@@ -94,7 +94,7 @@ skips c k to s l m f g stands none =
 -- where the second bit of a register is clear, it is zero then
 pub masked : (c : Code) (k n v : ℕ) (x : Scratch) (l : ProcessorState) (m : NodeMemory) (f g : ℕ → ℕ) → AreApart x
     → n ≡ k + 1 → StandsAt c.micros k (mask x.s) → bit_and v 2 ≡ 0
-    → Reaches c 1 (lane_at l (put (put f x.s v) x.t 0x80000000) g k) m
+    → Reaches c k 1 (lane_at l (put (put f x.s v) x.t 0x80000000) g k) m
     (lane_at l (put (put f x.s 0) x.t 0x80000000) g n) m
 unfolding alu
 masked c k n v x l m f g apart behind stands clear =
@@ -135,7 +135,7 @@ checked_read : (c : Code) (k a v : ℕ) (q : LoadKind) (x : Scratch) (l : Proces
     → (access : IsAccess c.micros (k + 8) x (kind_of_load q)) → a ≡ (reg f x.base + x.imm) % 2 ^ 32
     → is_readable_state (m.state (a / 64)) ≡ true → is_aligned (width_of q) a ≡ true → a < 2 ^ 31
     → v ≡ load_value q (byte_at c.program l m) a
-    → Reaches c 8 (lane_at l f g k) m
+    → Crosses None c k 7 (k + 8) 1 (lane_at l f g k) m
     (lane_at l (put (put (put f x.s 0) x.t 0x80000000) access.access.rd v) g (k + 9)) m
 checked_read c k a v q x l m f g n look test access is readable aligned low value =
     let op = access.access in
@@ -153,7 +153,12 @@ checked_read c k a v q x l m f g n look test access is readable aligned low valu
     (load_means q op f1 access.kind_is
     ∙ ap (λ (b : ℕ). Demands (Loads q op.rd b)) (same_address f f1 op x a access.base access.imm base is))
     aligned low value in
-    reaches_both 7 1 8 refl (reaches_both 6 1 7 refl (reaches_both 5 1 6 refl one two) three) four
+    record {
+      lane = lane_at l f1 g (k + 8);
+      memory = m;
+      first = reaches_both 6 1 7 refl refl (reaches_both 5 1 6 refl refl one two) three;
+      second = four;
+    }
 
 -- a store whose line may be written, but for the spills
 checked_write : (c : Code) (k a v : ℕ) (w : Width) (x : Scratch) (l : ProcessorState) (m : NodeMemory) (f g : ℕ → ℕ)
@@ -162,7 +167,7 @@ checked_write : (c : Code) (k a v : ℕ) (w : Width) (x : Scratch) (l : Processo
     → (access : IsAccess c.micros (k + 7) x (store_kind w)) → access.access.rs2 ≢ x.s → access.access.rs2 ≢ x.t
     → a ≡ (reg f x.base + x.imm) % 2 ^ 32 → v ≡ reg f access.access.rs2
     → is_writable_state (m.state (a / 64)) ≡ true → is_aligned w a ≡ true → a < 2 ^ 31
-    → Reaches c 7 (lane_at l f g k) m
+    → Crosses None c k 6 (k + 7) 1 (lane_at l f g k) m
     (lane_at (lane_stored c.program l w a v) (put (put f x.s 0) x.t 0x80000000) g (k + 8)) (local_stored c.program m w a v)
 checked_write c k a v w x l m f g n look test access rs2_s rs2_t is value writable aligned low =
     let op = access.access in
@@ -172,15 +177,20 @@ checked_write c k a v w x l m f g n look test access rs2_s rs2_t is value writab
     let base : reg f1 x.base ≡ reg f x.base =
     other_of f x 0 0x80000000 x.base (λ e. n.s_base (sym e)) (λ e. n.t_base (sym e)) in
     let kept : reg f1 op.rs2 ≡ v = other_of f x 0 0x80000000 op.rs2 rs2_s rs2_t ∙ sym value in
-    let one : Reaches c 5 (lane_at l f g k) m (lane_at l f1 g (k + 5)) m =
-    subst (λ (z : ℕ). Reaches c 5 (lane_at l f g k) m (lane_at l (put (put f x.s z) x.t 0x80000000) g (k + 5)) m) clear
+    let one : Reaches c k 5 (lane_at l f g k) m (lane_at l f1 g (k + 5)) m =
+    subst (λ (z : ℕ). Reaches c k 5 (lane_at l f g k) m (lane_at l (put (put f x.s z) x.t 0x80000000) g (k + 5)) m) clear
     (look_reaches c k a x l m f g n look is) in
     let two = skips c (k + 5) (k + 7) x.s l m f1 g
     (begins c.micros (k + 5) (skip x.s (k + 7) ∷ []) (skip x.s (k + 7)) test refl) (first_of f x 0 0x80000000 n) in
     let three = stores_memory c (k + 7) (k + 8) op w a v l m f1 g (omega arith) access.there
     (store_means w op f1 access.kind_is
     ∙ (λ t. Demands (Stores w (same_address f f1 op x a access.base access.imm base is t) (kept t)))) aligned low in
-    reaches_both 6 1 7 refl (reaches_both 5 1 6 refl one two) three
+    record {
+      lane = lane_at l f1 g (k + 7);
+      memory = m;
+      first = reaches_both 5 1 6 refl refl one two;
+      second = three;
+    }
 
 -- spills before and reloads behind
 
@@ -191,56 +201,68 @@ placed l k = record l { at = word_address k }
 pub stands_too : (micros : List MicroOp) (i j : ℕ) (op : MicroOp) → i ≡ j → StandsAt micros i op → StandsAt micros j op
 stands_too micros i j op same stands = subst (λ (k : ℕ). StandsAt micros k op) same stands
 
-pub reaches_too : (c : Code) (w w' i i' j j' : ℕ) (l l' : ProcessorState) (m m' : NodeMemory) (f f' g g' : ℕ → ℕ) → w ≡ w'
-    → i ≡ i' → j ≡ j' → Reaches c w (lane_at l f g i) m (lane_at l' f' g' j) m'
-    → Reaches c w' (lane_at l f g i') m (lane_at l' f' g' j') m'
-reaches_too c w w' i i' j j' l l' m m' f f' g g' words from to leads =
-    subst (λ (z : ℕ). Reaches c z (lane_at l f g i') m (lane_at l' f' g' j') m') words
-    (subst (λ (z : ℕ). Reaches c w (lane_at l f g z) m (lane_at l' f' g' j') m') from
-    (subst (λ (z : ℕ). Reaches c w (lane_at l f g i) m (lane_at l' f' g' z) m') to leads))
-
 -- words between that leave both scratch registers of a check, and another register a value
-around_check : (c : Code) (k n j e w rd v : ℕ) (x : Scratch) (l l' : ProcessorState) (m m' : NodeMemory) (f g : ℕ → ℕ)
+around_check : (c : Code) (k n i j e p rd v : ℕ) (x : Scratch) (l l' : ProcessorState) (m m' : NodeMemory) (f g : ℕ → ℕ)
     → n ≤ 2 → AreApart x → rd ≢ x.s → rd ≢ x.t → Keep c.micros k n (x.s ∷ x.t ∷ [])
-    → TakeBack c.micros j n (x.s ∷ x.t ∷ []) → e ≡ j + n
-    → ((h : ℕ → ℕ) → Reaches c w (lane_at l f h (k + n)) m
+    → TakeBack c.micros j n (x.s ∷ x.t ∷ []) → j ≡ i + 1 → e ≡ j + n
+    → ((h : ℕ → ℕ) → Crosses None c (k + n) p i 1 (lane_at l f h (k + n)) m
     (lane_at l' (put (put (put f x.s 0) x.t 0x80000000) rd v) h j) m')
-    → Reaches c (w + 2 * n) (lane_at l f g k) m
+    → Crosses None c k (p + n) i (1 + n) (lane_at l f g k) m
     (placed (set_register (left_by_check n x.s x.t (lane_at l' f g k)) rd v) e) m'
-around_check c k zero j e w rd v x l l' m m' f g few apart rd_s rd_t keep take end between =
-    reaches_too c w (w + 0) (k + 0) k j e l l' m m' f (put (put (put f x.s 0) x.t 0x80000000) rd v) g g (omega arith)
-    (omega arith) (omega (arith, end)) (between g)
-around_check c k (suc zero) j e w rd v x l l' m m' f g few apart rd_s rd_t keep take end between =
+around_check c k zero i j e p rd v x l l' m m' f g few apart rd_s rd_t keep take next end between =
+    let b = between g in
+    let f1 = put (put (put f x.s 0) x.t 0x80000000) rd v in
+    let words : p ≡ p + 0 = omega arith in
+    let start : k + 0 ≡ k = omega arith in
+    let stop : j ≡ e = omega (arith, end) in
+    record {
+      lane = b.lane;
+      memory = b.memory;
+      first = subst (λ (w : ℕ). Reaches c k w (lane_at l f g k) m b.lane b.memory) words
+          (subst (λ (z : ℕ). Reaches c z p (lane_at l f g z) m b.lane b.memory) start b.first);
+      second = subst (λ (z : ℕ). Reaches c i 1 b.lane b.memory (lane_at l' f1 g z) m') stop b.second;
+    }
+around_check c k (suc zero) i j e p rd v x l l' m m' f g few apart rd_s rd_t keep take next end between =
     let s = x.s in
     let t = x.t in
     let h = λ (i : ℕ). if i == 1 then reg f t else g i in
+    let b = between h in
     let kept : reg (put f s 0) t ≡ reg f t = put_other f s t 0 (λ q. apart.s_t (sym q)) in
     let one = keeps c k (k + 1) 1 t l m f g refl (omega arith)
     (stands_too c.micros (k + 0) k _ (omega arith) (keep 0 t (omega arith) refl)) in
-    let two = reaches_both 1 w (w + 1) (omega arith) one (between h) in
-    let three = takes c j e 1 t l' m' (put (put (put f s 0) t 0x80000000) rd v) h (put (put f s 0) rd v) end (omega arith)
+    let two = takes c j e 1 t l' m' (put (put (put f s 0) t 0x80000000) rd v) h (put (put f s 0) rd v) end (omega arith)
     (stands_too c.micros (j + 0) j _ (omega arith) (take 0 t (omega arith) refl))
     (sym (second_back (put f s 0) t rd 0x80000000 v (reg f t) (λ q. rd_t (sym q)) (sym kept))) in
-    subst (λ (z : ℕ). Reaches c (w + 2) (lane_at l f g k) m
-    (lane_at l' (put (put f s 0) rd v) (λ (i : ℕ). if i == 1 then z else g i) e) m') (sym kept)
-    (reaches_both (w + 1) 1 (w + 2) (omega arith) two three)
-around_check c k (suc (suc zero)) j e w rd v x l l' m m' f g few apart rd_s rd_t keep take end between =
+    let whole : Crosses None c k (p + 1) i 2 (lane_at l f g k) m (lane_at l' (put (put f s 0) rd v) h e) m' = record {
+      lane = b.lane;
+      memory = b.memory;
+      first = reaches_both 1 p (p + 1) (omega arith) refl one b.first;
+      second = reaches_both 1 1 2 refl next b.second two;
+    } in
+    subst (λ (z : ℕ). Crosses None c k (p + 1) i 2 (lane_at l f g k) m
+    (lane_at l' (put (put f s 0) rd v) (λ (i : ℕ). if i == 1 then z else g i) e) m') (sym kept) whole
+around_check c k (suc (suc zero)) i j e p rd v x l l' m m' f g few apart rd_s rd_t keep take next end between =
     let s = x.s in
     let t = x.t in
     let h0 = λ (i : ℕ). if i == 0 then reg f s else g i in
     let h = λ (i : ℕ). if i == 1 then reg f t else h0 i in
+    let b = between h in
     let one = keeps c k (k + 1) 0 s l m f g refl (omega arith)
     (stands_too c.micros (k + 0) k _ (omega arith) (keep 0 s (omega arith) refl)) in
     let two = keeps c (k + 1) (k + 2) 1 t l m f h0 (omega arith) (omega arith) (keep 1 t (omega arith) refl) in
-    let three = reaches_both 2 w (w + 2) (omega arith) (reaches_both 1 1 2 refl one two) (between h) in
-    let four = takes c j (j + 1) 0 s l' m' (put (put (put f s 0) t 0x80000000) rd v) h (put (put f t 0x80000000) rd v) refl
+    let three = takes c j (j + 1) 0 s l' m' (put (put (put f s 0) t 0x80000000) rd v) h (put (put f t 0x80000000) rd v) refl
     (omega arith) (stands_too c.micros (j + 0) j _ (omega arith) (take 0 s (omega arith) refl))
     (sym (first_back f s t rd 0 0x80000000 v apart.s_t (λ q. rd_s (sym q)))) in
-    let five = takes c (j + 1) e 1 t l' m' (put (put f t 0x80000000) rd v) h (put f rd v) (omega (arith, end)) (omega arith)
+    let four = takes c (j + 1) e 1 t l' m' (put (put f t 0x80000000) rd v) h (put f rd v) (omega (arith, end)) (omega arith)
     (take 1 t (omega arith) refl)
     (sym (second_back f t rd 0x80000000 v (reg f t) (λ q. rd_t (sym q)) refl)) in
-    reaches_both (w + 3) 1 (w + 4) (omega arith) (reaches_both (w + 2) 1 (w + 3) (omega arith) three four) five
-around_check c k (suc (suc (suc n))) j e w rd v x l l' m m' f g few apart rd_s rd_t keep take end between =
+    record {
+      lane = b.lane;
+      memory = b.memory;
+      first = reaches_both 2 p (p + 2) (omega arith) refl (reaches_both 1 1 2 refl refl one two) b.first;
+      second = reaches_both 2 1 3 refl (omega (arith, next)) (reaches_both 1 1 2 refl next b.second three) four;
+    }
+around_check c k (suc (suc (suc n))) i j e p rd v x l l' m m' f g few apart rd_s rd_t keep take next end between =
     absurd (omega (arith, few))
 
 -- a load whose line may be read
@@ -248,11 +270,11 @@ pub read_reaches : (c : Code) (k n a v : ℕ) (q : LoadKind) (l : ProcessorState
     → (there : IsRead c.micros k n (kind_of_load q)) → a ≡ (reg f there.x.base + there.x.imm) % 2 ^ 32
     → is_readable_state (m.state (a / 64)) ≡ true → is_aligned (width_of q) a ≡ true → a < 2 ^ 31
     → v ≡ load_value q (byte_at c.program l m) a
-    → Reaches c (8 + 2 * n) (lane_at l f g k) m
+    → Crosses None c k (7 + n) (k + n + 8) (1 + n) (lane_at l f g k) m
     (placed (set_register (left_by_check n there.x.s there.x.t (lane_at l f g k)) there.load.access.rd v) (k + (9 + 2 * n))) m
 read_reaches c k n a v q l m f g few there is readable aligned low value =
-    around_check c k n (k + n + 9) (k + (9 + 2 * n)) 8 there.load.access.rd v there.x l l m m f g few there.apart there.rd_s
-    there.rd_t there.keep there.take (omega arith)
+    around_check c k n (k + n + 8) (k + n + 9) (k + (9 + 2 * n)) 7 there.load.access.rd v there.x l l m m f g few there.apart
+    there.rd_s there.rd_t there.keep there.take (omega arith) (omega arith)
     (λ h. checked_read c (k + n) a v q there.x l m f h there.apart there.look there.test there.load is readable aligned low
     value)
 
@@ -260,7 +282,7 @@ read_reaches c k n a v q l m f g few there is readable aligned low value =
 pub write_reaches : (c : Code) (k n a v : ℕ) (w : Width) (l : ProcessorState) (m : NodeMemory) (f g : ℕ → ℕ) → n ≤ 2
     → (there : IsWrite c.micros k n (store_kind w)) → a ≡ (reg f there.x.base + there.x.imm) % 2 ^ 32
     → v ≡ reg f there.store.access.rs2 → is_writable_state (m.state (a / 64)) ≡ true → is_aligned w a ≡ true → a < 2 ^ 31
-    → Reaches c (7 + 2 * n) (lane_at l f g k) m
+    → Crosses None c k (6 + n) (k + n + 7) (1 + n) (lane_at l f g k) m
     (placed (left_by_check n there.x.s there.x.t (lane_at (lane_stored c.program l w a v) f g k)) (k + (8 + 2 * n)))
     (local_stored c.program m w a v)
 write_reaches c k n a v w l m f g few there is value writable aligned low =
@@ -269,13 +291,13 @@ write_reaches c k n a v w l m f g few there is value writable aligned low =
     let x = there.x in
     let f1 = put (put f x.s 0) x.t 0x80000000 in
     let left = left_by_check n x.s x.t (lane_at l' f g k) in
-    let whole = around_check c k n (k + n + 8) (k + (8 + 2 * n)) 7 0 0 x l l' m m' f g few there.apart
-    (λ e. there.apart.s_kept (sym e)) (λ e. there.apart.t_kept (sym e)) there.keep there.take (omega arith)
-    (λ h. subst (λ (r : ℕ → ℕ). Reaches c 7 (lane_at l f h (k + n)) m (lane_at l' r h (k + n + 8)) m')
+    let whole = around_check c k n (k + n + 7) (k + n + 8) (k + (8 + 2 * n)) 6 0 0 x l l' m m' f g few there.apart
+    (λ e. there.apart.s_kept (sym e)) (λ e. there.apart.t_kept (sym e)) there.keep there.take (omega arith) (omega arith)
+    (λ h. subst (λ (r : ℕ → ℕ). Crosses None c (k + n) 6 (k + n + 7) 1 (lane_at l f h (k + n)) m (lane_at l' r h (k + n + 8)) m')
     (sym (put_zero f1 0))
     (checked_write c (k + n) a v w x l m f h there.apart there.look there.test there.store there.rs2_s there.rs2_t is value
     writable aligned low)) in
-    subst (λ (r : ℕ → ℕ). Reaches c (7 + 2 * n) (lane_at l f g k) m (placed (record left { registers = r }) (k + (8 + 2 * n))) m')
+    subst (λ (r : ℕ → ℕ). Crosses None c k (6 + n) (k + n + 7) (1 + n) (lane_at l f g k) m (placed (record left { registers = r }) (k + (8 + 2 * n))) m')
     (put_zero left.registers 0) whole
 
 -- one and two words that go to others
@@ -291,7 +313,7 @@ branch_means cond.Ltu op f is = ap (λ (k : MicroKind). meaning_by k image_base 
 branch_means cond.Geu op f is = ap (λ (k : MicroKind). meaning_by k image_base op f) is
 
 pub jump_reaches : (c : Code) (k to : ℕ) (l : ProcessorState) (m : NodeMemory) (f g : ℕ → ℕ) (there : IsJump c.micros k)
-    → to ≡ there.jump.imm → Reaches c 1 (lane_at l f g k) m (lane_at l f g to) m
+    → to ≡ there.jump.imm → Reaches c k 1 (lane_at l f g k) m (lane_at l f g to) m
 jump_reaches c k to l m f g there is =
     let op = there.jump in
     jumps_to c k to op l m f g there.there
@@ -299,14 +321,14 @@ jump_reaches c k to l m f g there is =
     ∙ (λ t. Demands (Jumps (there.keeps_none t) (word_address (sym is t)))))
 
 pub poll_reaches : (c : Code) (k n : ℕ) (l : ProcessorState) (m : NodeMemory) (f g : ℕ → ℕ) → n ≡ k + 1
-    → IsPolled c.micros k → Reaches c 1 (lane_at l f g k) m (lane_at l f g n) m
+    → IsPolled c.micros k → Reaches c k 1 (lane_at l f g k) m (lane_at l f g n) m
 poll_reaches c k n l m f g behind there =
     passes c k n there.poll l m f g behind there.there
     (ap (λ (q : MicroKind). meaning_by q image_base there.poll f) there.is)
 
 pub over_reaches : (c : Code) (k to : ℕ) (q : Cond) (l : ProcessorState) (m : NodeMemory) (f g : ℕ → ℕ)
     → (there : IsOver c.micros k (branch_kind q)) → taken q (reg f there.branch.rs1) (reg f there.branch.rs2) ≡ true
-    → to ≡ k + 2 → Reaches c 1 (lane_at l f g k) m (lane_at l f g to) m
+    → to ≡ k + 2 → Reaches c k 1 (lane_at l f g k) m (lane_at l f g to) m
 over_reaches c k to q l m f g there holds is =
     let op = there.branch in
     branches_to c k to op l m f g there.there
@@ -315,10 +337,10 @@ over_reaches c k to q l m f g there holds is =
 
 pub jump_behind_reaches : (c : Code) (k to : ℕ) (q : Cond) (l : ProcessorState) (m : NodeMemory) (f g : ℕ → ℕ)
     → (there : IsOver c.micros k (branch_kind q)) → taken q (reg f there.branch.rs1) (reg f there.branch.rs2) ≡ false
-    → to ≡ there.jump.jump.imm → Reaches c 2 (lane_at l f g k) m (lane_at l f g to) m
+    → to ≡ there.jump.jump.imm → Reaches c k 2 (lane_at l f g k) m (lane_at l f g to) m
 jump_behind_reaches c k to q l m f g there fails is =
     let op = there.branch in
-    reaches_both 1 1 2 refl
+    reaches_both 1 1 2 refl refl
     (passes c k (k + 1) op l m f g refl there.there
     (branch_means q op f there.is ∙ ap (λ (b : Bool). Demands (branch_demand b (word_address op.imm))) fails))
     (jump_reaches c (k + 1) to l m f g there.jump is)
@@ -326,14 +348,14 @@ jump_behind_reaches c k to q l m f g there fails is =
 -- a number that two words have
 pub number_reaches : (c : Code) (k n v : ℕ) (l : ProcessorState) (m : NodeMemory) (f g : ℕ → ℕ) → n ≡ k + 2
     → (there : IsNumber c.micros k) → v ≡ (there.upper.imm + there.lower.imm) % 2 ^ 32
-    → Reaches c 2 (lane_at l f g k) m (lane_at l (put f there.upper.rd v) g n) m
+    → Reaches c k 2 (lane_at l f g k) m (lane_at l (put f there.upper.rd v) g n) m
 unfolding alu
 number_reaches c k n v l m f g behind there is =
     let upper = there.upper in
     let lower = there.lower in
     let f1 = put f upper.rd upper.imm in
     let got : reg f1 lower.rs1 ≡ upper.imm = ap (reg f1) there.same_rs1 ∙ put_here f upper.rd upper.imm there.kept in
-    reaches_both 1 1 2 refl
+    reaches_both 1 1 2 refl refl
     (sets c k (k + 1) upper upper.rd upper.imm l m f g f1 refl there.upper_there
     (ap (λ (q : MicroKind). meaning_by q image_base upper f) there.upper_is) refl)
     (sets c (k + 1) n lower upper.rd v l m f1 g (put f upper.rd v) (omega (arith, behind)) there.lower_there

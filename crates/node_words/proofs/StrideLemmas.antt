@@ -16,18 +16,20 @@ use Rattle.node_memory.specs.micro_op.Micro.{Demands, Meaning, meaning_by, meani
 use Rattle.node_memory.specs.jump_map.Image.{Cell, image_base, most_words}
 use Rattle.node_memory.specs.jump_map.Micro.{AreMicrosOf, IsMicroAnswer, IsMicroAt}
 use Rattle.node_memory.specs.jump_map.Strides.{StandsAt}
-use Rattle.node_memory.specs.node_model.Node.{Next, Region, To, load, next_outcome, only_moves, region_of, set_register, store}
+use Rattle.node_memory.specs.node_model.Node.{Next, Region, To, load, only_moves, region_of, set_register, store}
 use Rattle.node_words.specs.declared.exec_state.ExecState.{ExecState}
 use Rattle.node_words.specs.declared.strides.Going.{Going}
 use Rattle.node_words.specs.Address.{word_address}
-use Rattle.node_words.specs.GoingOn.{DoesNext, GoesFurther}
+use Rattle.node_words.specs.GoingOn.{DoesNext}
 use Rattle.node_memory.specs.Shelf.{ground_of, local_of}
-use Rattle.node_words.specs.Kept.{Follows, LeavesBehind, StepsTo, lane_of}
-use Rattle.node_words.specs.Strides.{Gives, IsStored, IsTried, Stays, StepsBy, StridesBy}
+use Rattle.node_words.specs.Kept.{LeavesBehind, StepsTo, lane_of}
+use Rattle.node_words.specs.Strides.{Gives, IsStored, IsTried, StepsBy, StridesBy, Trail, straight}
+use Rattle.node_words.specs.Trails.{trail_of}
+use Rattle.node_memory.specs.jump_map.declared.strides.StrideKind.{StrideKind}
 use Rattle.node_memory.proofs.MemoryLemmas.{memory_region}
 use Rattle.node_words.proofs.StepLemmas.{load_next, micro_step, next_follows, put_zero, store_next, to_follows}
 use Rattle.node_words.proofs.OneWord.{is_place}
-use Rattle.node_words.proofs.WordLemmas.{goes_both, goes_none, goes_one}
+use Rattle.node_words.proofs.AlongLemmas.{BodyReaches, body_one, further_both, straight_reaches, strides_straight}
 
 -- 1. What a body does
 
@@ -132,33 +134,39 @@ jumps image m from to b is none one there low =
 
 -- 3. Strides
 
+-- one word by the micro-op of its number
+pub reaches_word : (image : List Cell) (m : MicroOp) (from to : Going) (b b' : ExecState) → length image ≤ most_words
+    → IsMicroAt image from.at m → StepsBy image m from b to b' → BodyReaches image 1 b from.at 1 b' to.at
+reaches_word image m from to b b' few here steps =
+    body_one image from.at to.at b b' few (slice_get_within image from.at here.cell here.there)
+    (micro_step image m from.at b.lane b.local b'.lane b'.local (Some to.at) here.cell few here.there here.micro steps.steps)
+
 -- a stride of one word
 pub stride_of_one : (image : List Cell) (m : MicroOp) (from to : Going) (b b' : ExecState) → length image ≤ most_words
-    → IsMicroAt image from.at m → StepsBy image m from b to b' → StridesBy image from b to b'
+    → IsMicroAt image from.at m → StepsBy image m from b to b' → StridesBy image (straight 1) from b to b'
 stride_of_one image m from to b b' few here steps =
-    let one = steps.one in
-    let count : 1 ≡ from.left - to.left = omega (arith, one) in
-    record {
-      some = omega (arith, one);
-      low = steps.low;
-      goes = λ words. subst (λ (n : ℕ). GoesFurther image b from.at words b' to.at (words + n)) count
-          (goes_one image from.at words to.at b b'
-          (micro_step image m from.at b.lane b.local b'.lane b'.local (Some to.at) here.cell few here.there here.micro steps.steps));
-    }
+    let within = slice_get_within image from.at here.cell here.there in
+    strides_straight image 1 1 1 from to b b' steps.one (omega arith) (omega arith) (omega arith) (omega (arith, within)) steps.low
+    (reaches_word image m from to b b' few here steps)
 
 pub tried_stride : (t : Bool) (image : List Cell) (m : MicroOp) (from to : Going) (b b' : ExecState)
     → length image ≤ most_words → IsMicroAt image from.at m → IsTried t (StepsBy image m from b to b') from b to b'
-    → IsTried t (StridesBy image from b to b') from b to b'
+    → IsTried t (StridesBy image (straight 1) from b to b') from b to b'
 tried_stride true image m from to b b' few here steps = stride_of_one image m from to b b' few here steps
 tried_stride false image m from to b b' few here stays = stays
 
--- by the micro-op that stands at its number
+-- by the micro-op that stands at its number, where its kind is one of a word
+
+pub one_word : (kind is : StrideKind) (at : ℕ) → kind ≡ is → trail_of is at ≡ straight 1 → trail_of kind at ≡ straight 1
+one_word kind is at same one = ap (λ (k : StrideKind). trail_of k at) same ∙ one
+
 pub word_strides : (image : List Cell) (micros : List MicroOp) (op : MicroOp) (t : Bool) (from to : Going) (b b' : ExecState)
-    → length image ≤ most_words → AreMicrosOf image micros → StandsAt micros from.at op
-    → IsTried t (StepsBy image op from b to b') from b to b' → IsTried t (StridesBy image from b to b') from b to b'
-word_strides image micros op t from to b b' few are there tried =
-    tried_stride t image op from to b b' few
-    (subst (λ (x : Option MicroOp). IsMicroAnswer image from.at x) there (are from.at)) tried
+    (u : Trail) → u ≡ straight 1 → length image ≤ most_words → AreMicrosOf image micros → StandsAt micros from.at op
+    → IsTried t (StepsBy image op from b to b') from b to b' → IsTried t (StridesBy image u from b to b') from b to b'
+word_strides image micros op t from to b b' u is few are there tried =
+    subst (λ (x : Trail). IsTried t (StridesBy image x from b to b') from b to b') (sym is)
+    (tried_stride t image op from to b b' few
+    (subst (λ (x : Option MicroOp). IsMicroAnswer image from.at x) there (are from.at)) tried)
 
 -- there are as many micro-ops as words
 pub as_many : (image : List Cell) (micros : List MicroOp) → AreMicrosOf image micros → length micros ≡ length image
@@ -173,57 +181,18 @@ as_many image micros are = elim (slice_get_cases micros (length image)).1 [
   ]
 ]
 
--- a silent word
-pub stride_of_silent : (image : List Cell) (from to : Going) (b b' : ExecState)
-    → Follows image (next_outcome (program_of b.local.program) image (lane_of b.lane (word_address from.at)) (local_of b.local))
-    (ground_of b.local) (word_address to.at) b'.lane b'.local
-    → to.left + 1 ≡ from.left → to.at < 2 ^ 32 → StridesBy image from b to b'
-stride_of_silent image from to b b' follows one low =
-    let count : 1 ≡ from.left - to.left = omega (arith, one) in
-    record {
-      some = omega (arith, one);
-      low = low;
-      goes = λ words. subst (λ (n : ℕ). GoesFurther image b from.at words b' to.at (words + n)) count
-          (goes_one image from.at words to.at b b' follows);
-    }
+-- 4. A word, and a stride behind it
 
--- 4. What is tried after a try that changed nothing
-
-pub after_stays : (image : List Cell) (from mid to : Going) (b m b' : ExecState) → Stays from b mid m
-    → StridesBy image mid m to b' → StridesBy image from b to b'
-after_stays image from mid to b m b' stays strides = record {
-  some = subst (λ (g : Going). to.left < g.left) stays.place strides.some;
-  low = strides.low;
-  goes = λ words. goes_both image from.at words from.at words to.at (words + (from.left - to.left)) b m b'
-      (goes_none image from.at words b m stays.lane stays.local)
-      (subst (λ (g : Going). GoesFurther image m g.at words b' to.at (words + (g.left - to.left))) stays.place
-      (strides.goes words));
-}
-
-pub tried_after : (t : Bool) (image : List Cell) (from mid to : Going) (b m b' : ExecState) → Stays from b mid m
-    → IsTried t (StridesBy image mid m to b') mid m to b' → IsTried t (StridesBy image from b to b') from b to b'
-tried_after true image from mid to b m b' stays strides = after_stays image from mid to b m b' stays strides
-tried_after false image from mid to b m b' stays still = record {
-  place = still.place ∙ stays.place;
-  lane = still.lane ∙ stays.lane;
-  local = still.local ∙ stays.local;
-}
-
--- 5. A stride, and one behind it
-
-pub strides_both : (image : List Cell) (from mid to : Going) (b m b' : ExecState) → StridesBy image from b mid m
-    → StridesBy image mid m to b' → StridesBy image from b to b'
-strides_both image from mid to b m b' one two =
-    let first = one.some in
+pub strides_both : (image : List Cell) (reach : ℕ) (m : MicroOp) (from mid to : Going) (b b1 b' : ExecState)
+    → length image ≤ most_words → IsMicroAt image from.at m → mid.at ≡ from.at + 1 → StepsBy image m from b mid b1
+    → StridesBy image (straight reach) mid b1 to b' → StridesBy image (straight (1 + reach)) from b to b'
+strides_both image reach m from mid to b b1 b' few here next one two =
+    let first = one.one in
     let second = two.some in
-    record {
-      some = omega (arith, first, second);
-      low = two.low;
-      goes = λ words.
-          let sum : words + (from.left - mid.left) + (mid.left - to.left) ≡ words + (from.left - to.left) =
-          omega (arith, first, second) in
-          subst (λ (n : ℕ). GoesFurther image b from.at words b' to.at n) sum
-          (goes_both image from.at words mid.at (words + (from.left - mid.left)) to.at
-          (words + (from.left - mid.left) + (mid.left - to.left)) b m b' (one.goes words)
-          (two.goes (words + (from.left - mid.left))));
-    }
+    let most = two.first in
+    let within = two.within in
+    strides_straight image (1 + reach) (1 + reach) (1 + (mid.left - to.left)) from to b b' (omega (arith, first, second))
+    (omega arith) (omega (arith, most)) (omega arith) (omega (arith, within, next)) two.low
+    (further_both image 1 reach (1 + reach) from.at 1 mid.at (mid.left - to.left) to.at (1 + (mid.left - to.left)) b b1 b' refl
+    next (omega arith) (omega arith) (reaches_word image m from mid b b1 few here one)
+    (straight_reaches image reach mid to b1 b' two))

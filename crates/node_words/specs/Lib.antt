@@ -4,10 +4,8 @@ pub mod Kept
 pub mod Runs
 pub mod GoingOn
 pub mod Strides
+pub mod Trails
 pub mod UndoLogs
-pub mod Visits
-pub mod VisitTables
-pub mod Counting
 pub use Rattle.rv32_ops.specs as rv32_ops
 pub use Rattle.node_memory.specs.byte_range as byte_range
 pub use Rattle.node_memory.specs.rv32_step as rv32_step

@@ -1,5 +1,5 @@
 -- Helps the code alone: strides of a body.
-use Rattle.std.specs.Prelude.{◌≡◌, ℕ, ◌+◌, ◌-◌, ◌/◌, ◌%◌, ◌^◌, ◌<◌, ◌≤◌, Bool, true, false, ◌==◌, if◌then◌else◌, nat_le, List, Some, length}
+use Rattle.std.specs.Prelude.{◌≡◌, ℕ, ◌+◌, ◌-◌, ◌*◌, ◌/◌, ◌%◌, ◌^◌, ◌<◌, ◌≤◌, Bool, true, false, ◌==◌, if◌then◌else◌, nat_le, List, ◌++◌, Option, Some, None, length}
 use Rattle.rv32_decode.specs.declared.LoadKind.{LoadKind}
 use Rattle.rv32_decode.specs.declared.Width.{Width}
 use Rattle.rv32_decode.specs.Widths.{is_aligned, width_of}
@@ -12,10 +12,11 @@ use Rattle.node_memory.specs.micro_op.declared.micro_op.MicroOp.{MicroOp}
 use Rattle.node_memory.specs.micro_op.Micro.{meaning_of}
 use Rattle.node_memory.specs.jump_map.Image.{Cell, image_base, most_words}
 use Rattle.node_memory.specs.jump_map.Micro.{AreMicrosOf}
-use Rattle.node_memory.specs.node_model.Node.{ProcessorState, Memory, byte_at, set_register, store}
+use Rattle.node_memory.specs.node_model.Node.{ProcessorState, Memory, Node, Work, byte_at, can_execute, set_register, store}
 use Rattle.node_words.specs.declared.exec_state.ExecState.{ExecState}
 use Rattle.node_words.specs.declared.strides.Going.{Going}
-use Rattle.node_words.specs.GoingOn.{GoesFurther}
+use Rattle.node_words.specs.GoingOn.{GoesFurther, node_on}
+use Rattle.node_words.specs.Runs.{AreWordsOf, LooksAtMost, numbers_from}
 use Rattle.node_memory.specs.Shelf.{ground_of, local_of}
 use Rattle.node_words.specs.Kept.{LeavesBehind, StepsTo, lane_of}
 
@@ -27,13 +28,54 @@ pub record StepsBy (image : List Cell) (m : MicroOp) (from : Going) (b : ExecSta
   pub steps : StepsTo image (meaning_of image_base m (registers_of b.lane.registers)) from.at b.lane
       b.local b'.lane b'.local (Some to.at)
 
+-- where the words of a stride stand: they are among so many from its first on; the last few may
+-- stand behind a jump, up to where it goes on, and the others stand from its first on. Of one word
+-- it may be told that it reads something other than the flag word
+pub record Trail : Type 0 where
+  pub reach : ℕ
+  pub behind : ℕ
+  pub told : Option ℕ
+
+-- that of words that stand one after another
+abbrev pub straight : (reach : ℕ) → Trail
+straight reach = record { reach = reach; behind = 0; told = None }
+
+-- that of a checked sequence, of which so many words stand behind the jump past its call
+abbrev pub checked : (reach behind : ℕ) → Trail
+checked reach behind = record { reach = reach; behind = behind; told = None }
+
+-- that of a load that looks at its value, with so many registers spilled
+abbrev pub flagged : (at spilled : ℕ) → Trail
+flagged at spilled =
+    record { reach = 7 + 2 * spilled; behind = spilled; told = Some (at + (spilled + 2)) }
+
+-- the numbers of a stride's words
+abbrev pub numbers_by : Trail → (from to : Going) → List ℕ
+numbers_by t from to =
+    numbers_from from.at (from.left - to.left - t.behind)
+    ++ numbers_from (to.at - t.behind) t.behind
+
+-- so many of a body's words from one on, where a node executes them, are those of these numbers, if
+-- of the words of its trail none looks, but for the one that is told of
+abbrev pub BodyHasWords : List Cell → Trail → (at words : ℕ) → List ℕ → ExecState → Type 0
+BodyHasWords image t at words ks b =
+    (work : Work) (n : Node) (before : ℕ) (looks : ℕ → Bool) → work.image ≡ image
+    → work.program ≡ program_of b.local.program → can_execute n.phase ≡ true
+    → n.executed + before + words < work.budget → LooksAtMost looks t.told at t.reach
+    → AreWordsOf work looks ks (node_on n b at before)
+
 -- a body goes on by the words of a stride
-pub record StridesBy (image : List Cell) (from : Going) (b : ExecState) (to : Going)
+pub record StridesBy (image : List Cell) (t : Trail) (from : Going) (b : ExecState) (to : Going)
     (b' : ExecState) : Type 0 where
-  pub some : to.left < from.left
+  pub some : to.left + t.behind < from.left
   pub low : to.at < 2 ^ 32
   pub goes : (words : ℕ)
       → GoesFurther image b from.at words b' to.at (words + (from.left - to.left))
+  pub within : from.at + t.reach ≤ length image
+  pub first : from.left - to.left ≤ t.reach + t.behind
+  pub last : 0 < t.behind → to.at ≤ from.at + t.reach
+  pub behind : t.behind ≤ to.at
+  pub words : BodyHasWords image t from.at (from.left - to.left) (numbers_by t from to) b
 
 -- nothing changed
 pub record Stays (from : Going) (b : ExecState) (to : Going) (b' : ExecState) : Type 0 where
@@ -47,10 +89,11 @@ IsTried true done from b to b' = done
 IsTried false done from b to b' = Stays from b to b'
 
 -- a stride of these micro-ops was tried, whichever the image whose words they are
-abbrev pub IsStriddenBy : List MicroOp → Bool → Going → ExecState → Going → ExecState → Type 0
-IsStriddenBy micros result from b to b' =
+abbrev pub IsStriddenBy : List MicroOp → Trail → Bool → Going → ExecState → Going → ExecState
+    → Type 0
+IsStriddenBy micros t result from b to b' =
     (image : List Cell) → length image ≤ most_words → AreMicrosOf image micros
-    → IsTried result (StridesBy image from b to b') from b to b'
+    → IsTried result (StridesBy image t from b to b') from b to b'
 
 -- the kind of a sum of two registers, or of a register and a number
 abbrev pub add_kind : (registers : Bool) → MicroKind

@@ -412,7 +412,7 @@ impl<'a> ExecState<'a> {
 
     /// The address that rs1 and the immediate of a micro-op make.
     #[inline(always)]
-    pub(crate) fn sum_by(&self, op: &MicroOp) -> u32
+    pub fn sum_by(&self, op: &MicroOp) -> u32
         ensures { result ≡ sum_address op.now (registers_of self.now.lane.registers) }
     {
         self.lane.registers.get(op.rs1).wrapping_add(op.imm)
@@ -471,7 +471,7 @@ impl<'a> ExecState<'a> {
 
     /// The word of an address, where it isn't the flag word.
     #[inline(always)]
-    pub(crate) fn value_unlike_flag(&self, address: u32) -> Option<u32>
+    pub fn value_unlike_flag(&self, address: u32) -> Option<u32>
         ensures value { IfSome result (Gives self.now LoadKind.Word address) }
         ensures unlike { IfSome result (λ value. value ≢ 0xffffff03) }
     {

@@ -15,9 +15,6 @@ mod slow_path;
 mod store_log;
 mod strides;
 mod undo_log;
-mod visit;
-mod visiting;
-mod visits;
 
 pub use exec_state::ExecState;
 pub use lane::{ProcessorState, Resume, Tally, address_of, index_of};
@@ -27,5 +24,5 @@ pub use node_memory::{
 };
 pub use serve::{Following, Progress, Served};
 pub use store_log::{Note, StoreLog};
+pub use strides::{Going, MOST_AT_ONCE};
 pub use undo_log::{Saved, UndoLog};
-pub use visits::Visits;

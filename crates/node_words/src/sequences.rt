@@ -3,7 +3,7 @@
 //! Each function says whether it has done what the words of the sequence do one after another.
 //! Where a check fails it hasn't: then nothing has changed, and the words are executed one by one.
 
-ghost use Rattle.std.specs.Prelude.{◌≡◌, ◌+◌, ◌%◌, ◌^◌, ◌<◌, ◌≤◌, ℕ, true, false, length};
+ghost use Rattle.std.specs.Prelude.{◌≡◌, ◌+◌, ◌*◌, ◌%◌, ◌^◌, ◌<◌, ◌≤◌, ℕ, true, false, length};
 ghost use Rattle.std.specs.Prelude.{bit_and, bit_or};
 ghost use Rattle.node_memory.specs.micro_op.Kinds.{branch_kind, kind_of_load, store_kind};
 ghost use Rattle.node_memory.specs.micro_op.declared.micro_op.MicroOp.{MicroOp};
@@ -17,7 +17,8 @@ ghost use Rattle.node_memory.specs.jump_map.Strides.{IsOver, IsPolled, IsRead, I
 ghost use Rattle.node_memory.specs.jump_map.Strides.{IsWord, IsWriteHead, StandsAt};
 ghost use Rattle.node_memory.specs.node_model.Node.{set_register};
 ghost use Rattle.node_words.specs.Kept.{lane_of};
-ghost use Rattle.node_words.specs.Strides.{IsStriddenBy, IsTried, StridesBy, left_by_check};
+ghost use Rattle.node_words.specs.Strides.{IsStriddenBy, IsTried, StridesBy, checked, flagged};
+ghost use Rattle.node_words.specs.Strides.{left_by_check, straight};
 ghost use Rattle.node_words.specs.Strides.{left_by_head, left_one, state_at, add_kind};
 ghost use Rattle.node_words.specs.UndoLogs.{StaysUndoable};
 
@@ -38,7 +39,8 @@ impl<'a> ExecState<'a> {
         requires few { behind ≤ 1 }
         requires polls { (i : ℕ) → i < behind → IsPolled micros.now (going.old.at + i) }
         requires there { IsOver micros.now (going.old.at + behind) (branch_kind c) }
-        ensures strides { IsStriddenBy micros.now result going.old self.now going.new self.now }
+        ensures strides { IsStriddenBy micros.now (straight (2 + behind)) result going.old self.now
+            going.new self.now }
         ensures inside { going.new.at < length micros.now }
         ensures done { result ≡ true }
     {
@@ -68,7 +70,8 @@ impl<'a> ExecState<'a> {
         requires means { meaning_of image_base op.now (registers_of self.old.lane.registers)
             ≡ micro.by_immediate o op.now (registers_of self.old.lane.registers) }
         requires sum { IsWord micros.now (going.old.at + 1) (add_kind registers) }
-        ensures strides { IsStriddenBy micros.now result going.old self.old going.new self.new }
+        ensures strides { IsStriddenBy micros.now (straight 2) result going.old self.old
+            going.new self.new }
         ensures inside { going.new.at < length micros.now }
         ensures counts { self.new.counts ≡ self.old.counts }
         ensures undoable { StaysUndoable self.old self.new }
@@ -94,7 +97,8 @@ impl<'a> ExecState<'a> {
         requires means { meaning_of image_base op.now (registers_of self.old.lane.registers)
             ≡ micro.by_registers o op.now (registers_of self.old.lane.registers) }
         requires sum { IsWord micros.now (going.old.at + 1) (add_kind registers) }
-        ensures strides { IsStriddenBy micros.now result going.old self.old going.new self.new }
+        ensures strides { IsStriddenBy micros.now (straight 2) result going.old self.old
+            going.new self.new }
         ensures inside { going.new.at < length micros.now }
         ensures counts { self.new.counts ≡ self.old.counts }
         ensures undoable { StaysUndoable self.old self.new }
@@ -123,7 +127,8 @@ impl<'a> ExecState<'a> {
         requires few { behind ≤ 1 }
         requires polls { (i : ℕ) → i < behind → IsPolled micros.now (going.old.at + 1 + i) }
         requires there { IsOver micros.now (going.old.at + 1 + behind) (branch_kind c) }
-        ensures strides { IsStriddenBy micros.now result going.old self.old going.new self.new }
+        ensures strides { IsStriddenBy micros.now (straight (3 + behind)) result going.old self.old
+            going.new self.new }
         ensures inside { going.new.at < length micros.now }
         ensures counts { self.new.counts ≡ self.old.counts }
         ensures undoable { StaysUndoable self.old self.new }
@@ -138,7 +143,8 @@ impl<'a> ExecState<'a> {
         requires room { 18 ≤ going.old.left }
         requires poll { IsPolled micros.now going.old.at }
         requires there { IsJump micros.now (going.old.at + 1) }
-        ensures strides { IsStriddenBy micros.now result going.old self.now going.new self.now }
+        ensures strides { IsStriddenBy micros.now (straight 2) result going.old self.now
+            going.new self.now }
         ensures inside { going.new.at < length micros.now }
     {
         self.jump(2, &micros[going.at + 1], going)
@@ -153,7 +159,7 @@ impl<'a> ExecState<'a> {
         requires poll { IsPolled micros.now going.old.at }
         requires there { IsEntry micros.now (going.old.at + 1) }
         ensures tried { IsTried result
-            (StridesBy image.now going.old self.now going.new self.now)
+            (StridesBy image.now (straight 2) going.old self.now going.new self.now)
             going.old self.now going.new self.now }
         ensures inside { result ≡ true → going.new.at < length image.now }
     {
@@ -166,7 +172,8 @@ impl<'a> ExecState<'a> {
         requires room { 18 ≤ going.old.left }
         requires low { going.old.at < most_words }
         requires there { IsNumber micros.now going.old.at }
-        ensures strides { IsStriddenBy micros.now result going.old self.old going.new self.new }
+        ensures strides { IsStriddenBy micros.now (straight 2) result going.old self.old
+            going.new self.new }
         ensures inside { going.new.at < length micros.now }
         ensures counts { self.new.counts ≡ self.old.counts }
         ensures undoable { StaysUndoable self.old self.new }
@@ -182,7 +189,8 @@ impl<'a> ExecState<'a> {
         requires room { 18 ≤ going.old.left }
         requires there { IsNumber micros.now going.old.at }
         requires jump { IsJump micros.now (going.old.at + 2) }
-        ensures strides { IsStriddenBy micros.now result going.old self.old going.new self.new }
+        ensures strides { IsStriddenBy micros.now (straight 3) result going.old self.old
+            going.new self.new }
         ensures inside { going.new.at < length micros.now }
         ensures counts { self.new.counts ≡ self.old.counts }
         ensures undoable { StaysUndoable self.old self.new }
@@ -222,7 +230,8 @@ impl<'a> ExecState<'a> {
         requires low { going.old.at < most_words }
         requires few { spilled ≤ 2 }
         requires there { IsRead micros.now going.old.at spilled (kind_of_load kind) }
-        ensures strides { IsStriddenBy micros.now result going.old self.old going.new self.new }
+        ensures strides { IsStriddenBy micros.now (checked (9 + 2 * spilled) (1 + spilled))
+            result going.old self.old going.new self.new }
         ensures inside { result ≡ true → going.new.at < length micros.now }
         ensures counts { self.new.counts ≡ self.old.counts }
         ensures undoable { StaysUndoable self.old self.new }
@@ -253,7 +262,8 @@ impl<'a> ExecState<'a> {
         requires low { going.old.at < most_words }
         requires few { spilled ≤ 2 }
         requires there { IsWrite micros.now going.old.at spilled (store_kind width) }
-        ensures strides { IsStriddenBy micros.now result going.old self.old going.new self.new }
+        ensures strides { IsStriddenBy micros.now (checked (8 + 2 * spilled) (1 + spilled))
+            result going.old self.old going.new self.new }
         ensures inside { result ≡ true → going.new.at < length micros.now }
         ensures counts { self.new.counts ≡ self.old.counts }
         ensures undoable { StaysUndoable self.old self.new }
@@ -282,7 +292,8 @@ impl<'a> ExecState<'a> {
         requires low { going.old.at < most_words }
         requires few { spilled ≤ 1 }
         requires there { IsFlagged micros.now going.old.at spilled }
-        ensures strides { IsStriddenBy micros.now result going.old self.old going.new self.new }
+        ensures strides { IsStriddenBy micros.now (flagged going.old.at spilled)
+            result going.old self.old going.new self.new }
         ensures inside { result ≡ true → going.new.at < length micros.now }
         ensures counts { self.new.counts ≡ self.old.counts }
         ensures undoable { StaysUndoable self.old self.new }
@@ -312,7 +323,8 @@ impl<'a> ExecState<'a> {
         requires low { going.old.at < most_words }
         requires few { spilled ≤ 3 }
         requires there { IsReadHead micros.now going.old.at spilled }
-        ensures strides { IsStriddenBy micros.now result going.old self.old going.new self.new }
+        ensures strides { IsStriddenBy micros.now (checked (16 + 2 * spilled) spilled)
+            result going.old self.old going.new self.new }
         ensures inside { result ≡ true → going.new.at < length micros.now }
         ensures counts { self.new.counts ≡ self.old.counts }
         ensures undoable { StaysUndoable self.old self.new }
@@ -337,7 +349,8 @@ impl<'a> ExecState<'a> {
         requires low { going.old.at < most_words }
         requires few { spilled ≤ 3 }
         requires there { IsWriteHead micros.now going.old.at spilled }
-        ensures strides { IsStriddenBy micros.now result going.old self.old going.new self.new }
+        ensures strides { IsStriddenBy micros.now (checked (15 + 2 * spilled) spilled)
+            result going.old self.old going.new self.new }
         ensures inside { result ≡ true → going.new.at < length micros.now }
         ensures counts { self.new.counts ≡ self.old.counts }
         ensures undoable { StaysUndoable self.old self.new }

@@ -26,7 +26,7 @@ impl<'a> ExecState<'a> {
     /// the index of the word that follows. `None` where the path that serves every word has to;
     /// then nothing changed.
     #[inline(always)]
-    pub(crate) fn step_on(&mut self, image: &Image, at: u32) -> Option<u32>
+    pub fn step_on(&mut self, image: &Image, at: u32) -> Option<u32>
         requires { length image.now ≤ most_words }
         ensures steps { StepsOr image.now (model.next_outcome (program_of self.old.local.program)
             image.now (lane_of self.old.lane (word_address at)) (local_of self.old.local))

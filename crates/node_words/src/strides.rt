@@ -12,6 +12,7 @@ ghost use Rattle.node_words.specs.GoingOn.{BodyGoesOn, GoesFurther};
 ghost use Rattle.node_memory.specs.Shelf.{ground_of};
 ghost use Rattle.node_words.specs.Kept.{StepsTo};
 ghost use Rattle.node_words.specs.Strides.{IsTried, StepsBy, StridesBy};
+ghost use Rattle.node_words.specs.Trails.{trail_of};
 ghost use Rattle.node_words.specs.UndoLogs.{StaysUndoable};
 
 use crate::exec_state::ExecState;
@@ -21,13 +22,13 @@ use node_memory::micro_op::MicroOp;
 use rv32_decode::{Cond, LoadKind, Op, Width};
 
 /// No stride has more words.
-const MOST_AT_ONCE: u32 = 18;
+pub const MOST_AT_ONCE: u32 = 18;
 
 /// The number of the next word, and how many more words there may be.
 #[derive(Clone, Copy)]
-pub(crate) struct Going {
-    pub(crate) at: usize,
-    pub(crate) left: u32,
+pub struct Going {
+    pub at: usize,
+    pub left: u32,
 }
 
 impl Going {
@@ -45,7 +46,7 @@ impl Going {
 
     /// So many words were executed, and the word of a number follows.
     #[inline(always)]
-    pub(crate) fn to(&mut self, words: u32, number: usize)
+    pub fn to(&mut self, words: u32, number: usize)
         requires room { words ≤ self.old.left }
         requires low { number < 2 ^ 32 }
         ensures at { self.new.at ≡ number }
@@ -75,8 +76,10 @@ impl<'a> ExecState<'a> {
             at: from as usize,
             left: budget,
         };
-        let mut inside = going.at < strides.len();
-        while inside && going.left >= MOST_AT_ONCE {
+        if going.at >= strides.len() {
+            return self.run_rest(image, going, budget);
+        }
+        while going.left >= MOST_AT_ONCE {
             let here = going;
             let kind = stride_at(micros, strides, here.at);
             if !self.stride(kind, image, micros, &mut going) {
@@ -84,7 +87,9 @@ impl<'a> ExecState<'a> {
                     Some(next) => {
                         going = here;
                         going.to(1, next as usize);
-                        inside = going.at < strides.len();
+                        if going.at >= strides.len() {
+                            return self.run_rest(image, going, budget);
+                        }
                     }
                     None => {
                         return Progress {
@@ -95,6 +100,22 @@ impl<'a> ExecState<'a> {
                 }
             }
         }
+        self.run_rest(image, going, budget)
+    }
+
+    /// Executes the words that are left of a budget one by one, and gives how many were executed of
+    /// the whole budget.
+    #[inline(never)]
+    fn run_rest(&mut self, image: &Image, going: Going, budget: u32) -> Progress
+        requires few { length image.now ≤ most_words }
+        requires left { going.left ≤ budget }
+        requires low { going.at < 2 ^ 32 }
+        ensures goes { GoesFurther image.now self.old going.at (budget - going.left) self.new
+            result.at result.words }
+        ensures most { result.words ≤ budget }
+        ensures counts { self.new.counts ≡ self.old.counts }
+        ensures undoable { StaysUndoable self.old self.new }
+    {
         let last = self.run_singly(image, going.at as u32, going.left as u64);
         Progress {
             at: last.at,
@@ -106,7 +127,7 @@ impl<'a> ExecState<'a> {
     /// nothing changes. Where it does, a word of the image follows.
     #[tactic(auto, using(crate::proofs::UndoLogLemmas::undoable_same))]
     #[inline(always)]
-    pub(crate) fn stride(
+    pub fn stride(
         &mut self,
         kind: StrideKind,
         image: &Image,
@@ -118,7 +139,7 @@ impl<'a> ExecState<'a> {
         requires room { 18 ≤ going.old.left }
         requires is { IsStride micros.now going.old.at kind }
         ensures tried { IsTried result
-            (StridesBy image.now going.old self.old going.new self.new)
+            (StridesBy image.now (trail_of kind going.old.at) going.old self.old going.new self.new)
             going.old self.old going.new self.new }
         ensures inside { result ≡ true → going.new.at < length micros.now }
         ensures counts { self.new.counts ≡ self.old.counts }
@@ -325,7 +346,7 @@ impl<'a> ExecState<'a> {
     /// Executes a micro-op at an index, and gives the index of the word that follows. `None` where
     /// the path that serves every word has to; then nothing changed.
     #[inline(always)]
-    pub(crate) fn step(&mut self, image: &Image, op: &MicroOp, at: u32) -> Option<u32>
+    pub fn step(&mut self, image: &Image, op: &MicroOp, at: u32) -> Option<u32>
         requires low { at < most_words }
         ensures steps { StepsTo image.now
             (meaning_of image_base op.now (registers_of self.old.lane.registers)) at
@@ -349,13 +370,7 @@ impl<'a> ExecState<'a> {
     /// nothing changes.
     #[tactic(auto, using(crate::proofs::UndoLogLemmas::undoable_same))]
     #[inline(always)]
-    pub(crate) fn one(
-        &mut self,
-        kind: StrideKind,
-        image: &Image,
-        op: &MicroOp,
-        going: &mut Going,
-    ) -> bool
+    pub fn one(&mut self, kind: StrideKind, image: &Image, op: &MicroOp, going: &mut Going) -> bool
         requires plain { IsPlain kind op.now }
         requires room { 0 < going.old.left }
         requires low { going.old.at < most_words }

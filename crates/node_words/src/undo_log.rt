@@ -1,6 +1,6 @@
 //! What takes back words that were executed by their micro-ops.
 
-ghost use Rattle.std.specs.Prelude.{◌≡◌, ◌<◌, ◌≤◌, All, length};
+ghost use Rattle.std.specs.Prelude.{◌≡◌, ◌<◌, ◌≤◌, true, All, length};
 ghost use Rattle.node_memory.specs.exec_map.Contents.{program_of};
 ghost use Rattle.node_memory.specs.jump_map.Image.{most_words};
 ghost use Rattle.node_memory.specs.Shelf.{Shelf, ground_of, local_of};
@@ -72,14 +72,34 @@ impl<'a> ExecState<'a> {
             self.old.lane self.old.local }
         ensures counts { self.new.counts ≡ self.old.counts }
     {
+        self.start_noting(undo_log);
+        let progress = self.run(image, from, most);
+        self.stop_noting(undo_log);
+        progress
+    }
+
+    /// From here on, what stores overwrite is noted, and takes words back together with the undo
+    /// log, which keeps the lane.
+    pub fn start_noting(&mut self, undo_log: &mut UndoLog)
+        ensures on { self.new.log.on ≡ true }
+        ensures back { TakesBack undo_log.new.saved self.new.log.notes.items self.new.lane
+            self.new.local self.old.lane self.old.local }
+        ensures same { self.new ≡ record self.old { log = self.new.log } }
+    {
         undo_log.saved = save(&self.lane);
         undo_log.notes.clear();
         swap(&mut self.log.notes, &mut undo_log.notes);
         self.log.on = true;
-        let progress = self.run(image, from, most);
+    }
+
+    /// From here on, nothing is noted. The undo log has what was.
+    pub fn stop_noting(&mut self, undo_log: &mut UndoLog)
+        ensures notes { undo_log.new.notes.items ≡ self.old.log.notes.items }
+        ensures saved { undo_log.new.saved ≡ undo_log.old.saved }
+        ensures same { self.new ≡ record self.old { log = self.new.log } }
+    {
         self.log.on = false;
         swap(&mut self.log.notes, &mut undo_log.notes);
-        progress
     }
 
     /// Takes back the words of an undo log.

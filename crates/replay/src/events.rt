@@ -35,9 +35,9 @@ impl<'a> Replayer<'a> {
     ghost use Rattle.dsm_core.specs.CoreParts.{work_in, work_of, core_of, outcome_of};
     ghost use Rattle.dsm_core.specs.CoreParts.{event_of};
     ghost use Rattle.dsm_core.specs.CoreWords.{HasPassedWords};
-    ghost use Rattle.dsm_core.specs.node_machine.node_words.Visits.{AreCounted};
-    ghost use Rattle.dsm_core.specs.node_machine.node_words.VisitTables.{AreVisitsIn};
-    ghost use Rattle.dsm_core.specs.node_machine.node_words.VisitTables.{StayVisits, visits_of};
+    ghost use Rattle.dsm_core.specs.node_machine.word_visits.Visits.{AreCounted};
+    ghost use Rattle.dsm_core.specs.node_machine.word_visits.VisitTables.{AreVisitsIn};
+    ghost use Rattle.dsm_core.specs.node_machine.word_visits.VisitTables.{StayVisits, visits_of};
     ghost use Rattle.run_record.specs.Record.{IsRecord};
     ghost use Rattle.replay.specs.Refusals.{IsFirstBroken, IsUnfinished};
     ghost use Rattle.replay.specs.Replay.{IsReplay, TellsWholeRun};

@@ -29,9 +29,9 @@ use Rattle.run_trace.specs.Trace.{trace_from}
 use Rattle.run_trace.specs.Traced.{OfWord, Traced, What, Word, first_traced, traced_at, what_at, word_traced}
 use Rattle.run_trace.specs.Tracing.{AreVisitsOf, HasTraced, HasTracedMore, HasTracedOne, HasTracedSilent, HasTracedWords, IsSame, kinds_traced, plan_traced, work_traced}
 use Rattle.run_trace.specs.Visited.{CommitByNumber}
-use Rattle.run_trace.specs.node_machine.node_words.declared.visits.Visits.{Visits}
-use Rattle.run_trace.specs.node_machine.node_words.Visits.{AreCounted, WordVisits}
-use Rattle.run_trace.specs.node_machine.node_words.VisitTables.{visits_of}
+use Rattle.run_trace.specs.node_machine.word_visits.declared.visits.Visits.{Visits}
+use Rattle.run_trace.specs.node_machine.word_visits.Visits.{AreCounted, WordVisits}
+use Rattle.run_trace.specs.node_machine.word_visits.VisitTables.{visits_of}
 use Rattle.run_trace.specs.replay.dsm_core.CoreWords.{HasPassedWords}
 use Rattle.run_trace.proofs.Tracings.{events_traced, told_append, traced_on, visits_same}
 use Rattle.run_costs.specs.declared.counting.Counting.{Counting}

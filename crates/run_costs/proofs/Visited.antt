@@ -9,7 +9,7 @@ use Rattle.check_costs.specs.Tally.{Executed, first_label, labels_of}
 use Rattle.run_trace.specs.node_model.jump_map.templates.declared.plans.PlanEntry.{PlanEntry}
 use Rattle.run_trace.specs.node_model.Node.{Work, Node}
 use Rattle.run_trace.specs.node_model.Core.{AreAlike, Core, Event, Exec, after, event_step}
-use Rattle.run_trace.specs.node_machine.node_words.Visits.{AreCounted, WordVisits, next_number, visited}
+use Rattle.run_trace.specs.node_machine.word_visits.Visits.{AreCounted, WordVisits, next_number, visited}
 use Rattle.run_trace.specs.replay.dsm_core.CoreWords.{GoesOnBy}
 use Rattle.run_trace.specs.replay.rewriting_law.CoreRun.{commits}
 use Rattle.run_trace.specs.declared.kinds.CommitKinds.{CommitKinds}

@@ -1,6 +1,5 @@
 -- The words of a run, one event after another, and how many they are.
-use Rattle.std.proofs.Common.{◌≡◌, ℕ, ◌<◌, Bool, true, false, cond, List, [], ◌∷◌, ◌++◌, length, map, Option, Some, None, refl, sym, ap, ◌∙◌, arith, append_assoc, append-nil, inl, inr}
-use Rattle.std.specs.Prelude.{if◌then◌else◌}
+use Rattle.std.proofs.Common.{◌≡◌, ℕ, ◌<◌, cond, List, [], ◌∷◌, ◌++◌, length, map, refl, sym, ap, ◌∙◌, arith, append_assoc, append-nil, inl, inr}
 use Rattle.std.specs.List.{count_by, range_with_len}
 use Rattle.std.proofs.lemmas.Bool.{cases_Bool}
 use Rattle.std.proofs.lemmas.List.{same_lists}
@@ -8,14 +7,14 @@ use Rattle.std.proofs.lemmas.List.FromFn.{get_or-map-range_with_len, length-map-
 use Rattle.std.proofs.lemmas.List.Sums.{sum_by-append}
 use Rattle.check_costs.specs.elf_symbols.Symbols.{Symbol}
 use Rattle.check_costs.specs.Tally.{Executed, steps_in}
-use Rattle.run_trace.specs.node_model.miss_handlers.dsm_messages.declared.messages.Wire.{Wire}
-use Rattle.run_trace.specs.node_model.jump_map.rv32_step.OneMemory.{Break}
 use Rattle.run_trace.specs.node_model.jump_map.templates.declared.plans.PlanEntry.{PlanEntry}
 use Rattle.run_trace.specs.node_model.declared.NodeCounts.{NodeCounts}
 use Rattle.run_trace.specs.node_model.Node.{Work, Node}
 use Rattle.run_trace.specs.node_model.Core.{Core, Event, Exec, Take, May, AreAlike, after, event_step}
-use Rattle.run_trace.specs.replay.rewriting_law.CoreRun.{Order, break_by, commits, order_of, picks_at, picks_of, picks_of_take}
-use Rattle.run_costs.specs.Costs.{is_step, is_word, next_word, words_at, words_from}
+use Rattle.run_trace.specs.replay.rewriting_law.CoreRun.{commits, picks_at, picks_of}
+use Rattle.run_trace.specs.Steps.{is_step}
+use Rattle.run_trace.proofs.StepCounts.{no_take_steps}
+use Rattle.run_costs.specs.Costs.{is_word, next_word, words_at, words_from}
 
 -- 1. One event more
 
@@ -49,22 +48,6 @@ words_count symbols work plan c (Take i j ∷ es) =
     let rest = words_count symbols work plan (event_step work c (Take i j)) es in
     let one = sum_by-append (λ e. cond (is_word e) 1 0) (Take i j ∷ []) es in
     omega (arith, rest, one)
-
-no_steps : (b : Bool) (i r : ℕ) → count_by is_step (if b then Break i r ∷ [] else []) ≡ 0
-no_steps true i r = refl
-no_steps false i r = refl
-
-no_break_steps : (work : Work) (i : ℕ) (order : Option Order) (reserved : Option ℕ)
-    → count_by is_step (break_by work.layout i order reserved) ≡ 0
-no_break_steps work i None reserved = refl
-no_break_steps work i (Some order) None = refl
-no_break_steps work i (Some order) (Some a) = no_steps _ i order.requester
-
-no_take_steps : (work : Work) (c : Core) (i j : ℕ) (wires : List Wire)
-    → count_by is_step (picks_of_take work c i j wires) ≡ 0
-no_take_steps work c i j [] = refl
-no_take_steps work c i j (wire ∷ rest) =
-    no_break_steps work i (order_of work.layout (c.nodes i) j wire.message) (c.nodes i).local.reservation
 
 -- the steps of an event
 steps_at : (symbols : List Symbol) (work : Work) (plan : List PlanEntry) (c : Core) (e : Event)

@@ -7,7 +7,7 @@ use Rattle.check_costs.specs.declared.labels.Label.{Label}
 use Rattle.check_costs.specs.Counts.{by_kind, total}
 use Rattle.check_costs.specs.Tally.{Executed, first_label, labels_of, tally_of}
 use Rattle.run_trace.specs.node_model.jump_map.Image.{number_of_word}
-use Rattle.run_trace.specs.node_model.jump_map.rv32_step.OneMemory.{Pick, Step, Break}
+use Rattle.run_trace.specs.node_model.jump_map.rv32_step.OneMemory.{Pick}
 use Rattle.run_trace.specs.node_model.jump_map.templates.declared.plans.PlanEntry.{PlanEntry}
 use Rattle.run_trace.specs.node_model.declared.NodeCounts.{NodeCounts}
 use Rattle.run_trace.specs.node_model.Node.{Work, Node}
@@ -17,6 +17,7 @@ use Rattle.run_trace.specs.replay.Replay.{TellsWholeRun}
 use Rattle.run_trace.specs.replay.Told.{Told, events_told}
 use Rattle.run_trace.specs.replay.run_record.declared.Record.{Record}
 use Rattle.run_trace.specs.replay.rewriting_law.CoreRun.{commits, picks_of}
+use Rattle.run_trace.specs.Steps.{is_step}
 
 -- 1. The words of a run
 
@@ -54,11 +55,6 @@ words_told symbols work plan told =
 abbrev pub is_word : Event → Bool
 is_word (Exec i) = true
 is_word (Take i j) = false
-
--- a pick is a step of the original
-abbrev pub is_step : Pick → Bool
-is_step (Step p) = true
-is_step (Break of by) = false
 
 -- the picks of the events that a record tells of: an interleaved run of the original, by the law of
 -- rewriting

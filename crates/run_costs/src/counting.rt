@@ -5,7 +5,7 @@ ghost use Rattle.std.specs.Prelude.{IfOk};
 ghost use Rattle.check_costs.specs.declared.labels.Label.{Label as OfWord};
 ghost use Rattle.check_costs.specs.Given.{IsTallyOf};
 ghost use Rattle.check_costs.specs.Tally.{Executed};
-ghost use Rattle.run_trace.specs.node_machine.node_words.VisitTables.{visits_of};
+ghost use Rattle.run_trace.specs.node_machine.word_visits.VisitTables.{visits_of};
 ghost use Rattle.run_trace.specs.node_model.jump_map.Image.{number_of_word};
 ghost use Rattle.run_trace.specs.Given.{what_of};
 ghost use Rattle.run_trace.specs.Traced as trace;
@@ -295,7 +295,7 @@ impl<'a> Counting<'a> {
             ≡ counts_after (work_in self.entry) (map event_seen seen)) }
     {
         let nodes = nodes_of(alloc, self.tracer.replayer.core())?;
-        let tally = with_visits(self.tally, &self.labels, &self.visits, &self.tracer)?;
+        let tally = with_visits(alloc, self.tally, &self.labels, &self.visits, &self.tracer)?;
         Ok(RunCosts {
             counts: tally.into_counts(),
             nodes,
@@ -303,8 +303,10 @@ impl<'a> Counting<'a> {
     }
 }
 
-/// A tally, with the words that visits stand for besides. Fails where a count has no room.
+/// A tally, with the words that visits stand for besides. Fails where a count has no room, and for
+/// want of memory.
 fn with_visits(
+    alloc: Global,
     tally: Tally,
     labels: &[Label],
     visits: &Visits,
@@ -320,9 +322,10 @@ fn with_visits(
         (visits_of visits.now))) }
 {
     let mut tally = tally;
+    let times = visits.times(alloc)?;
     for number in 0..visits.len() {
         let commits = tracer.commits_visited(number);
-        tally.add_words(label_of(labels, number), visits.times(number), commits)?;
+        tally.add_words(label_of(labels, number), times[number], commits)?;
     }
     Ok(tally)
 }

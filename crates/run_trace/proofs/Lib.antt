@@ -8,5 +8,6 @@ mod TakeEnds
 mod Silent
 pub mod Tracings
 mod Visited
+pub mod StepCounts
 mod Passes
 pub mod Wholes

@@ -8,8 +8,8 @@ use Rattle.node_model.specs.Node.{Work, Node}
 use Rattle.node_model.specs.Core.{Core, Event, Exec, Take, May, AreAlike, opening_core, event_step, take_first, after}
 use Rattle.replay.specs.run_order.OwnRun.{Stamped, maker, node_of, run_of}
 use Rattle.replay.specs.dsm_core.CoreParts.{core_of}
-use Rattle.replay.specs.node_machine.node_words.declared.visits.Visits.{Visits}
-use Rattle.replay.specs.node_machine.node_words.VisitTables.{AreVisitsIn, visits_of}
+use Rattle.replay.specs.node_machine.word_visits.declared.visits.Visits.{Visits}
+use Rattle.replay.specs.node_machine.word_visits.VisitTables.{AreVisitsIn, visits_of}
 use Rattle.replay.specs.Told.{Told, what_told, events_told}
 use Rattle.replay.specs.Way.{HasMade, HasMadeWord, core_in}
 use Rattle.replay.proofs.Way.{event_alike}

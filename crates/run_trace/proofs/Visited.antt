@@ -18,9 +18,9 @@ use Rattle.node_model.specs.Node.{Node, Work, WordOutcome, standing_of, word_out
 use Rattle.node_model.specs.Turns.{word_turn}
 use Rattle.node_model.specs.Core.{AreAlike, Core, Exec, May, may_execute, event_step}
 use Rattle.replay.specs.rewriting_law.CoreRun.{commits}
-use Rattle.replay.specs.node_machine.node_words.declared.visits.Visits.{Visits}
-use Rattle.replay.specs.node_machine.node_words.Visits.{AreCounted, Counts, WordVisits, never, next_number, reads_other, visited, visits_at}
-use Rattle.replay.specs.node_machine.node_words.VisitTables.{AreVisitsIn, StayVisits, visits_of}
+use Rattle.replay.specs.node_machine.word_visits.declared.visits.Visits.{Visits}
+use Rattle.replay.specs.node_machine.word_visits.Visits.{AreCounted, Counts, WordVisits, never, next_number, reads_other, visited, visits_at}
+use Rattle.replay.specs.node_machine.word_visits.VisitTables.{AreVisitsIn, StayVisits, visits_of}
 use Rattle.replay.specs.dsm_core.CoreWords.{GoesOnBy}
 use Rattle.replay.specs.Way.{IsSilent}
 use Rattle.run_trace.specs.declared.kinds.CommitKinds.{CommitKinds}
@@ -116,19 +116,27 @@ by_kind IfNotFlag o other =
     ap (λ x. option_map_or (λ v. not (eqb v flag_word)) x false) (read_same o.access) ∙ other refl
 by_kind IfNoWait o other = refl
 
+-- a silent word commits by its kind, where it reads something other than the flag word if that asks
+pub kind_commits : (work : Work) (plan : List PlanEntry) (kinds : CommitKinds) (c : Core) (i k : ℕ)
+    → AreKindsOf work.program plan work.image kinds → (c.nodes i).lane.at ≡ address_of_word k
+    → (asks (get_or kinds.kinds.items k Never) ≡ true → reads_other (word_outcome work (c.nodes i)) ≡ true)
+    → IsSilent work c (Exec i) → commits work plan (c.nodes i) ≡ commits_visited kinds k
+kind_commits work plan kinds c i k are at other silent =
+    let n = c.nodes i in
+    let o = word_outcome work n in
+    let kind = get_or kinds.kinds.items k Never in
+    let is : commit_at work.program plan (old_of work.image n.lane.at) ≡ kind =
+    sym (are n.lane.at) ∙ ap (kind_in kinds) at ∙ kind_there kinds k in
+    sym (silent_commits work plan c i (access_seen o.access) silent refl)
+    ∙ ap (λ (x : CommitKind). commits_when x (access_seen o.access) false) is
+    ∙ by_kind kind o other
+
 one_commits : (work : Work) (plan : List PlanEntry) (kinds : CommitKinds) (c : Core) (i : ℕ) (vs : List WordVisits)
     → AreKindsOf work.program plan work.image kinds → LookByKind kinds vs → Counts work (c.nodes i) vs
     → IsSilent work c (Exec i) → commits work plan (c.nodes i) ≡ commits_visited kinds (next_number (c.nodes i))
 one_commits work plan kinds c i vs are look count silent =
-    let n = c.nodes i in
-    let k = next_number n in
-    let o = word_outcome work n in
-    let kind = get_or kinds.kinds.items k Never in
-    let is : commit_at work.program plan (old_of work.image n.lane.at) ≡ kind =
-    sym (are n.lane.at) ∙ ap (kind_in kinds) count.at ∙ kind_there kinds k in
-    sym (silent_commits work plan c i (access_seen o.access) silent refl)
-    ∙ ap (λ (x : CommitKind). commits_when x (access_seen o.access) false) is
-    ∙ by_kind kind o (λ asked. count.other (look k ∙ asked))
+    let k = next_number (c.nodes i) in
+    kind_commits work plan kinds c i k are count.at (λ asked. count.other (look k ∙ asked)) silent
 
 -- cores that are alike may make the same words
 pub may_last : (work : Work) (c d : Core) (i : ℕ) → AreAlike work.layout.nodes c d → May work c (Exec i) → May work d (Exec i)

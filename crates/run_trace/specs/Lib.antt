@@ -7,6 +7,8 @@ pub mod Taking
 pub mod Tracing
 pub mod Entries
 pub mod Kinds
+pub mod Committing
+pub mod Steps
 pub mod Passing
 pub mod Visited
 pub use Rattle.node_model.specs as node_model

@@ -6,8 +6,8 @@ use Rattle.node_model.specs.Core.{Event, Exec, May}
 use Rattle.replay.specs.run_record.declared.Record.{Record}
 use Rattle.replay.specs.dsm_core.CoreParts.{work_of, core_of}
 use Rattle.replay.specs.declared.events.Replayer.{Replayer}
-use Rattle.replay.specs.node_machine.node_words.declared.visits.Visits.{Visits}
-use Rattle.replay.specs.node_machine.node_words.VisitTables.{AreVisitsIn, visits_of}
+use Rattle.replay.specs.node_machine.word_visits.declared.visits.Visits.{Visits}
+use Rattle.replay.specs.node_machine.word_visits.VisitTables.{AreVisitsIn, visits_of}
 use Rattle.replay.specs.Told.{Told, events_told}
 use Rattle.replay.specs.Way.{HasMade, core_in, record_in, events_left}
 use Rattle.run_trace.specs.declared.kinds.CommitKinds.{CommitKinds}

@@ -1,12 +1,13 @@
 -- Words that are counted by their numbers, and which of them commit.
-use Rattle.std.specs.Prelude.{◌≡◌, ℕ, zero, suc, Bool, true, false, List, slice_index_or}
+use Rattle.std.specs.Prelude.{◌≡◌, ℕ, zero, suc, Bool, true, false, List, map, slice_index_or}
 use Rattle.templates.specs.declared.commits.CommitKind.{CommitKind}
 use Rattle.templates.specs.declared.commits.CommitKind.TheVariants.{Never, IfNotFlag}
 use Rattle.templates.specs.declared.plans.PlanEntry.{PlanEntry}
 use Rattle.node_model.specs.Node.{Work}
 use Rattle.node_model.specs.Core.{Core, Exec, event_step}
 use Rattle.replay.specs.rewriting_law.CoreRun.{commits}
-use Rattle.replay.specs.node_machine.node_words.Visits.{WordVisits, next_number, visits_at}
+use Rattle.replay.specs.node_machine.word_visits.Tallies.{WordTally}
+use Rattle.replay.specs.node_machine.word_visits.Visits.{WordVisits, next_number, visits_at}
 use Rattle.run_trace.specs.declared.kinds.CommitKinds.{CommitKinds}
 
 -- whether a word of this kind commits depends on what it reads
@@ -22,6 +23,14 @@ may_commit kind = true
 -- those of a word of this kind before it is executed
 abbrev pub first_visits : CommitKind → WordVisits
 first_visits kind = record { times = 0; looks = asks kind }
+
+-- the tally of a word of this kind: it counts as a step of the original where it commits one
+abbrev pub tally_by : CommitKind → WordTally
+tally_by kind = record { counts = may_commit kind; looks = asks kind }
+
+-- these are the tallies of words of these kinds
+abbrev pub AreTalliesOf : CommitKinds → List WordTally → Type 0
+AreTalliesOf kinds ts = ts ≡ map tally_by kinds.kinds.items
 
 -- the word of a number commits each time that it counts
 abbrev pub commits_visited : CommitKinds → ℕ → Bool

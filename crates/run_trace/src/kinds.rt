@@ -6,12 +6,14 @@ ghost use Rattle.templates.specs.Code.{HasCode};
 ghost use Rattle.templates.specs.Commits.{commit_at};
 ghost use Rattle.node_model.specs.jump_map.Maps.{old_of};
 ghost use Rattle.run_trace.specs.Kinds.{AreKindsOf, kind_in};
-ghost use Rattle.replay.specs.node_machine.node_words.VisitTables.{AreVisitsIn, visits_of};
-ghost use Rattle.run_trace.specs.Visited.{asks, commits_visited, first_visits, may_commit};
+ghost use Rattle.replay.specs.node_machine.word_visits.TallyTables.{AreTalliesIn, tallies_of};
+ghost use Rattle.replay.specs.node_machine.word_visits.VisitTables.{AreVisitsIn, visits_of};
+ghost use Rattle.run_trace.specs.Visited.{AreTalliesOf, asks, commits_visited, first_visits};
+ghost use Rattle.run_trace.specs.Visited.{may_commit};
 
 use crate::entries::Entries;
 use node_model::jump_map::{IMAGE_BASE, Image};
-use replay::node_machine::Visits;
+use replay::node_machine::{Tallies, Visits};
 use std::alloc::{AllocError, Global};
 use templates::{Code, CommitKind, Plan};
 
@@ -23,7 +25,7 @@ pub struct CommitKinds {
 
 impl CommitKinds {
     /// Those of the words of an image, by the plan that it has.
-    pub(crate) fn of(
+    pub fn of(
         alloc: Global,
         image: &Image,
         plan: &Plan,
@@ -52,6 +54,18 @@ impl CommitKinds {
             visits.push(image, asks(*kind))?;
         }
         Ok(visits)
+    }
+
+    /// The tallies of all words of an image: a word counts that commits a step of the original.
+    pub fn tallies(&self, alloc: Global, image: &Image) -> Result<Tallies, AllocError>
+        ensures value { IfOk result (λ tallies. AreTalliesOf self.now (tallies_of tallies)) }
+        ensures table { IfOk result (AreTalliesIn image.now) }
+    {
+        let mut tallies = Tallies::with_room(alloc, self.kinds.len())?;
+        for kind in &self.kinds {
+            tallies.push(image, may_commit(*kind), asks(*kind))?;
+        }
+        Ok(tallies)
     }
 
     /// Whether the word of a number commits each time that it counts.

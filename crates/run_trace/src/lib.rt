@@ -1,6 +1,7 @@
 #![tactic(auto)]
 //! What a recorded run did, event by event.
 
+mod committing;
 mod entries;
 mod kinds;
 mod law;
@@ -11,6 +12,8 @@ mod traced;
 mod tracer;
 mod words;
 
+pub use committing::{CommitSight, commit_sight, has_committed, silent_commits};
+pub use kinds::CommitKinds;
 pub use law::trace_law;
 pub use passed::{Until, WordPassed};
 pub use replay;

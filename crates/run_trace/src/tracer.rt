@@ -45,8 +45,8 @@ impl<'a> Tracer<'a> {
     ghost use Rattle.node_model.specs.Core.{Exec, Take};
     ghost use Rattle.replay.specs.rewriting_law.Bounds.{RunsRewritten};
     ghost use Rattle.replay.specs.node_machine.Touch.{IsTouch};
-    ghost use Rattle.replay.specs.node_machine.node_words.Visits.{AreCounted};
-    ghost use Rattle.replay.specs.node_machine.node_words.VisitTables.{visits_of};
+    ghost use Rattle.replay.specs.node_machine.word_visits.Visits.{AreCounted};
+    ghost use Rattle.replay.specs.node_machine.word_visits.VisitTables.{visits_of};
     ghost use Rattle.replay.specs.dsm_core.CoreParts.{work_in, core_of};
     ghost use Rattle.replay.specs.dsm_core.CoreWords.{HasPassedWords};
     ghost use Rattle.replay.specs.run_record.Record.{IsRecord};

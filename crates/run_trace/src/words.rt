@@ -87,7 +87,7 @@ pub(crate) fn word_traced(
 }
 
 /// What a word reaches that prints this.
-fn reached(reach: WordAccess, printed: Option<u8>) -> Option<Reached>
+pub(crate) fn reached(reach: WordAccess, printed: Option<u8>) -> Option<Reached>
     ensures { result ≡ reached_by reach printed }
 {
     match (reach, printed) {
@@ -123,7 +123,7 @@ pub(crate) fn accessed_at(layout: &Layout, reached: Reached) -> Accessed
 }
 
 /// Whether a processor has ended by an exit.
-fn exits(end: Option<End>) -> bool
+pub(crate) fn exits(end: Option<End>) -> bool
     ensures { result ≡ is_exited end }
 {
     match end {
@@ -133,7 +133,7 @@ fn exits(end: Option<End>) -> bool
 }
 
 /// Whether a node waits.
-fn waits(standing: Standing) -> bool
+pub(crate) fn waits(standing: Standing) -> bool
     ensures { result ≡ waits_in standing }
 {
     match standing {

@@ -3,7 +3,7 @@ use Rattle.std.proofs.Common.{◌≡◌, ◌<◌, ◌^◌, true, refl, sym, subs
 use Rattle.run_order.specs.node_model.Node.{Node, Work, can_execute}
 use Rattle.node_machine.specs.NodeState.{node_of, work_of as work_at}
 use Rattle.dsm_core.specs.CoreSteps.{SameNodes}
-use Rattle.node_machine.specs.node_words.VisitTables.{AreVisitsIn, visits_of}
+use Rattle.node_machine.specs.word_visits.VisitTables.{AreVisitsIn, visits_of}
 use Rattle.dsm_core.proofs.CoreSteps.{same_node, same_work, set_same}
 use Rattle.dsm_core.proofs.Words.{counted_words, passed_words}
 use Rattle.dsm_core.proofs.steps.run_visiting.Goals as goal

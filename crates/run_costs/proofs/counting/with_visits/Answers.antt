@@ -1,12 +1,12 @@
 -- The words of one number after another.
-use Rattle.std.proofs.Common.{◌≡◌, ◌+◌, ◌<◌, ◌≤◌, ◌++◌, List, length, replicate, take, get_or, sym, ap, ◌∙◌, arith, append_assoc, append-nil}
-use Rattle.std.proofs.lemmas.List.{get_or_default, take_all}
+use Rattle.std.proofs.Common.{◌≡◌, ℕ, ◌+◌, ◌<◌, ◌≤◌, ◌++◌, List, length, replicate, take, get_or, sym, ap, ◌∙◌, arith, append_assoc, append-nil}
+use Rattle.std.proofs.lemmas.List.{get_or-map, get_or_default, length-map, take_all}
 use Rattle.std.proofs.lemmas.List.FromFn.{length-map-range_with_len}
 use Rattle.check_costs.specs.declared.labels.Label.{Label}
 use Rattle.check_costs.specs.Tally.{Executed, tally_in, tally_of}
 use Rattle.run_trace.specs.Tracing.{kinds_traced}
-use Rattle.run_trace.specs.node_machine.node_words.Visits.{never}
-use Rattle.run_trace.specs.node_machine.node_words.VisitTables.{visits_of}
+use Rattle.run_trace.specs.node_machine.word_visits.Visits.{WordVisits, never}
+use Rattle.run_trace.specs.node_machine.word_visits.VisitTables.{visits_of}
 use Rattle.run_costs.specs.Counting.{word_by, words_by}
 use Rattle.run_costs.proofs.Labels.{found_within}
 use Rattle.run_costs.proofs.Visited.{words_by_more}
@@ -31,6 +31,12 @@ add_words-requires c =
     let long = ap length counts ∙ length-map-range_with_len (tally_in words) 0 (r.0 + 1) in
     record { function = omega (arith, found, within, long) }
 
+-- as many counts as words
+pub index-requires : goal.index-requires
+index-requires c =
+    let count = ap length c.in_ok-times.ensures ∙ length-map (visits_of c.args.visits.now) (λ (v : WordVisits). v.times) in
+    omega (arith, count, c.len-number-end.ensures, c.loop-number-test.true, c.loop-number.auto.number-end)
+
 pub loop-number-preserved : goal.loop-number-preserved
 loop-number-preserved c = λ first functions words head is.
     let vs = visits_of c.args.visits.now in
@@ -38,12 +44,14 @@ loop-number-preserved c = λ first functions words head is.
     let word = word_by first c.args.labels.now (kinds_traced c.args.tracer.now) in
     let before = words_by word 0 (take n vs) in
     let label = c.label_of.ensures first head in
-    let times = c.times.ensures in
     let commits = c.commits_visited-commits.ensures.value in
     let within : n < length vs =
     omega (arith, c.len-number-end.ensures, c.loop-number-test.true, c.loop-number.auto.number-end) in
+    let times : c.index.result.now ≡ (get_or vs n never).times =
+    c.index.ensures ∙ ap (λ (xs : List ℕ). get_or xs n c.index.result.now) c.in_ok-times.ensures
+    ∙ get_or-map (λ (v : WordVisits). v.times) vs n never c.index.result.now within in
     let same : words ++ (before
-    ++ replicate c.times.result (record { label = c.label_of.result; commits = c.commits_visited-commits.result }))
+    ++ replicate c.index.result.now (record { label = c.label_of.result; commits = c.commits_visited-commits.result }))
     ≡ words ++ words_by word 0 (take (n + 1) vs) =
     ap (λ (l : List Executed). words ++ l)
     ((λ j. before ++ replicate (times j) (record { label = label j; commits = commits j }))

@@ -2,8 +2,8 @@
 use Rattle.std.proofs.Common.{◌∙◌, sym, subst}
 use Rattle.run_order.specs.node_model.Node.{opening_node}
 use Rattle.run_order.specs.node_model.Core.{Exec, May}
-use Rattle.node_machine.specs.node_words.Visits.{AreCounted}
-use Rattle.node_machine.specs.node_words.VisitTables.{AreVisitsIn, visits_of}
+use Rattle.node_machine.specs.word_visits.Visits.{AreCounted}
+use Rattle.node_machine.specs.word_visits.VisitTables.{AreVisitsIn, visits_of}
 use Rattle.dsm_core.specs.CoreParts.{CoreParts, work_of, core_with, core_of, AreParts, HasStampsInRange}
 use Rattle.dsm_core.specs.CoreWords.{HasPassedWords}
 use Rattle.dsm_core.specs.CoreSteps.{CanExecute}

@@ -1,13 +1,13 @@
 use Rattle.std.proofs.Common.{◌≡◌, ◌+◌, ◌*◌, ◌<◌, ◌∙◌, ap, sym, subst, refl, length, arith, add-zero}
 use Rattle.block_layout.specs.Layout.{Shape}
-use Rattle.node_words.specs.exec_map.Contents.{program_of}
-use Rattle.node_words.specs.declared.exec_state.ExecState.{ExecState}
-use Rattle.node_words.specs.node_model.Node.{Node, can_execute}
-use Rattle.node_words.specs.GoingOn.{node_on}
-use Rattle.node_words.specs.Runs.{GoesOnBy}
-use Rattle.node_words.specs.node_memory.Shelf.{Ground, ground_of}
+use Rattle.word_visits.specs.node_words.exec_map.Contents.{program_of}
+use Rattle.word_visits.specs.node_words.declared.exec_state.ExecState.{ExecState}
+use Rattle.word_visits.specs.node_words.node_model.Node.{Node, can_execute}
+use Rattle.word_visits.specs.node_words.GoingOn.{node_on}
+use Rattle.word_visits.specs.node_words.Runs.{GoesOnBy}
+use Rattle.word_visits.specs.node_words.node_memory.Shelf.{Ground, ground_of}
 use Rattle.node_machine.specs.NodeState.{node_of, work_of, layout_of, phase_of, IsProtocolState, AreCountsBelow, WaitsInPhase}
-use Rattle.node_words.proofs.WordLemmas.{still_may}
+use Rattle.word_visits.proofs.words.WordLemmas.{still_may}
 use Rattle.node_machine.proofs.NodeStateLemmas.{on_waits, counts_up}
 use Rattle.node_machine.proofs.UndoLogLemmas.{passed_to}
 use Rattle.node_machine.proofs.node_state.NodeState.run_silent.Goals as goal

@@ -1,13 +1,13 @@
 use Rattle.std.proofs.Common.{◌+◌, ◌*◌, ◌∙◌, ap, sym, subst, refl, length, arith}
 use Rattle.block_layout.specs.Layout.{Shape}
-use Rattle.node_words.specs.exec_map.Contents.{program_of}
-use Rattle.node_words.specs.declared.exec_state.ExecState.{ExecState}
-use Rattle.node_words.specs.node_model.Node.{can_execute}
-use Rattle.node_words.specs.GoingOn.{BodyGoesOn}
-use Rattle.node_words.specs.node_memory.Shelf.{Ground, ground_of}
-use Rattle.node_words.specs.UndoLogs.{TakesBack}
+use Rattle.word_visits.specs.node_words.exec_map.Contents.{program_of}
+use Rattle.word_visits.specs.node_words.declared.exec_state.ExecState.{ExecState}
+use Rattle.word_visits.specs.node_words.node_model.Node.{can_execute}
+use Rattle.word_visits.specs.node_words.GoingOn.{BodyGoesOn}
+use Rattle.word_visits.specs.node_words.node_memory.Shelf.{Ground, ground_of}
+use Rattle.word_visits.specs.node_words.UndoLogs.{TakesBack}
 use Rattle.node_machine.specs.NodeState.{layout_of, phase_of, IsProtocolState, AreCountsBelow, WaitsInPhase}
-use Rattle.node_words.proofs.WordLemmas.{still_may}
+use Rattle.word_visits.proofs.words.WordLemmas.{still_may}
 use Rattle.node_machine.proofs.NodeStateLemmas.{counts_up}
 use Rattle.node_machine.proofs.UndoLogLemmas.{goes_on_noted, left_after, noted_waits}
 use Rattle.node_machine.proofs.node_state.NodeState.run_undoable.Goals as goal

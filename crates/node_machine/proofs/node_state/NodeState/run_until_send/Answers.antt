@@ -1,6 +1,6 @@
 use Rattle.std.proofs.Common.{◌∙◌, ap}
-use Rattle.node_words.specs.node_model.Turns.{word_turn}
-use Rattle.node_words.specs.node_model.Node.{Work}
+use Rattle.word_visits.specs.node_words.node_model.Turns.{word_turn}
+use Rattle.word_visits.specs.node_words.node_model.Node.{Work}
 use Rattle.node_machine.specs.NodeState.{node_of}
 use Rattle.node_machine.proofs.node_state.NodeState.run_until_send.Goals as goal
 

@@ -1,15 +1,15 @@
 use Rattle.std.proofs.Common.{◌≡◌, ◌+◌, ◌*◌, ◌<◌, ◌∙◌, ap, sym, subst, refl, length, arith, add-zero}
 use Rattle.block_layout.specs.Layout.{Shape}
-use Rattle.node_words.specs.exec_map.Contents.{program_of}
-use Rattle.node_words.specs.declared.exec_state.ExecState.{ExecState}
-use Rattle.node_words.specs.node_model.Node.{Node, can_execute}
-use Rattle.node_words.specs.GoingOn.{node_on}
-use Rattle.node_words.specs.Runs.{GoesOnBy}
-use Rattle.node_words.specs.Visits.{AreCounted}
-use Rattle.node_words.specs.VisitTables.{visits_of}
-use Rattle.node_words.specs.node_memory.Shelf.{Ground, ground_of}
+use Rattle.word_visits.specs.node_words.exec_map.Contents.{program_of}
+use Rattle.word_visits.specs.node_words.declared.exec_state.ExecState.{ExecState}
+use Rattle.word_visits.specs.node_words.node_model.Node.{Node, can_execute}
+use Rattle.word_visits.specs.node_words.GoingOn.{node_on}
+use Rattle.word_visits.specs.node_words.Runs.{GoesOnBy}
+use Rattle.word_visits.specs.Visits.{AreCounted}
+use Rattle.word_visits.specs.VisitTables.{visits_of}
+use Rattle.word_visits.specs.node_words.node_memory.Shelf.{Ground, ground_of}
 use Rattle.node_machine.specs.NodeState.{node_of, work_of, layout_of, phase_of, IsProtocolState, AreCountsBelow, WaitsInPhase}
-use Rattle.node_words.proofs.WordLemmas.{still_may}
+use Rattle.word_visits.proofs.words.WordLemmas.{still_may}
 use Rattle.node_machine.proofs.NodeStateLemmas.{on_waits, counts_up}
 use Rattle.node_machine.proofs.UndoLogLemmas.{passed_to}
 use Rattle.node_machine.proofs.node_state.NodeState.run_visiting.Goals as goal
@@ -23,7 +23,7 @@ returns-clause-goes_on c =
     let second = c.most_words.ensures.second in
     let words = c.run_visiting-stretch.result.words in
     let at = c.run_visiting-stretch.result.at in
-    let b = c.run_visiting-stretch.new.self in
+    let b = c.run_visiting-stretch.new.body in
     let room : i.lane.executed + c.most_words.result < i.lane.budget = omega (arith, low, budget, first, second) in
     let on = subst (λ (x : ExecState). GoesOnBy (work_of i) words (node_on (node_of i) x i.lane.at 0)
     (node_on (node_of i) b at words)) c.deref_mut.ensures.value
@@ -100,6 +100,6 @@ returns-clause-node c =
       noted = n.noted;
       behind = omega (arith, behind);
       counts = counts_up (19 * i.shared.stamp) (19 * (i.shared.stamp + c.run_visiting-stretch.result.words))
-          c.run_visiting-stretch.new.self.counts (omega arith)
+          c.run_visiting-stretch.new.body.counts (omega arith)
           (subst (AreCountsBelow (19 * i.shared.stamp)) (sym counts) n.counts);
     }

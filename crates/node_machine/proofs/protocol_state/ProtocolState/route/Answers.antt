@@ -1,9 +1,9 @@
 use Rattle.std.proofs.Common.{List, sym, refl, subst}
-use Rattle.node_words.specs.dsm_messages.declared.messages.Post.{Post}
-use Rattle.node_words.specs.dsm_messages.declared.messages.Message.{Message}
-use Rattle.node_words.specs.miss_handlers.Effects.{HasEffect, message_effect}
+use Rattle.word_visits.specs.node_words.dsm_messages.declared.messages.Post.{Post}
+use Rattle.word_visits.specs.node_words.dsm_messages.declared.messages.Message.{Message}
+use Rattle.word_visits.specs.node_words.miss_handlers.Effects.{HasEffect, message_effect}
 use Rattle.node_machine.specs.declared.protocol_state.ProtocolState.{ProtocolState}
-use Rattle.node_words.specs.node_memory.Blocks.{blocks_at}
+use Rattle.word_visits.specs.node_words.node_memory.Blocks.{blocks_at}
 use Rattle.node_machine.specs.ProtocolState.{HasRouted}
 use Rattle.node_machine.proofs.ProtocolLemmas.{others_routed, protocol_other}
 use Rattle.node_machine.proofs.protocol_state.ProtocolState.route.Goals as goal

@@ -1,7 +1,7 @@
 use Rattle.std.proofs.Common.{◌≡◌, ◌+◌, ◌^◌, ◌∙◌, [], ◌∷◌, ap, sym, refl, arith}
 use Rattle.block_layout.specs.Layout.{Shape}
-use Rattle.node_words.specs.node_model.Turns.{Turn, each_block_once}
-use Rattle.node_words.specs.node_memory.Shelf.{Ground, want_of, others_of, all_wants}
+use Rattle.word_visits.specs.node_words.node_model.Turns.{Turn, each_block_once}
+use Rattle.word_visits.specs.node_words.node_memory.Shelf.{Ground, want_of, others_of, all_wants}
 use Rattle.node_machine.specs.NodeState.{layout_of, with_parts}
 use Rattle.node_machine.specs.ProtocolState.{turn_by}
 use Rattle.node_machine.specs.Wanted.{wanted, block_with, wants_along}

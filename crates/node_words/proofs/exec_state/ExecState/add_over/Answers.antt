@@ -1,6 +1,7 @@
-use Rattle.std.proofs.Common.{ℕ, ◌+◌, subst, sym}
+use Rattle.std.proofs.Common.{◌≡◌, ℕ, ◌+◌, subst, sym, arith}
 use Rattle.node_memory.specs.micro_op.Kinds.{branch_kind}
 use Rattle.node_memory.specs.jump_map.Strides.{IsOver, IsPolled}
+use Rattle.node_words.specs.Strides.{IsTried, StridesBy, straight}
 use Rattle.node_words.proofs.ReachLemmas.{code_of}
 use Rattle.node_words.proofs.WholeLemmas.{op_then}
 use Rattle.node_words.proofs.exec_state.ExecState.add_over.Goals as goal
@@ -18,6 +19,9 @@ pub returns-clause-strides : goal.returns-clause-strides
 returns-clause-strides c image few are =
     let b = c.args.self.now in
     let m = c.add.new.self in
-    op_then (code_of b image c.args.micros.now few are) c.args.op.now c.args.going.now c.add.new.going c.over.new.going b m m
-    c.add.result c.over.result c.requires.here c.add.ensures.done c.over.ensures.done (c.add.ensures.tried image)
-    (c.over.ensures.strides image few are)
+    let reach : 1 + (2 + c.args.behind) ≡ 3 + c.args.behind = omega arith in
+    subst (λ (r : ℕ). IsTried c.over.result (StridesBy image (straight r) c.args.going.now b c.over.new.going m) c.args.going.now b
+    c.over.new.going m) reach
+    (op_then (code_of b image c.args.micros.now few are) (2 + c.args.behind) c.args.op.now c.args.going.now c.add.new.going
+    c.over.new.going b m m c.add.result c.over.result c.requires.here c.add.ensures.next c.add.ensures.done c.over.ensures.done (c.add.ensures.tried image)
+    (c.over.ensures.strides image few are))

@@ -1,8 +1,11 @@
+use Rattle.std.proofs.lemmas.Option.{slice_get_within}
 use Rattle.std.proofs.Common.{◌+◌, ◌%◌, ◌^◌, Bool, sym, ap, ◌∙◌, subst, refl, arith}
 use Rattle.node_memory.specs.micro_op.declared.micro_op.MicroOp.{MicroOp}
-use Rattle.node_words.specs.Strides.{IsTried, StridesBy}
+use Rattle.node_words.specs.Strides.{IsTried, StridesBy, straight}
 use Rattle.node_words.proofs.ReachLemmas.{Code, code_of}
-use Rattle.node_words.proofs.WholeLemmas.{call_goes, found_at, strides_by}
+use Rattle.node_words.proofs.StrideLemmas.{as_many}
+use Rattle.node_words.proofs.AlongLemmas.{strides_straight}
+use Rattle.node_words.proofs.WholeLemmas.{call_goes, found_at}
 use Rattle.node_words.proofs.exec_state.ExecState.far_call.Goals as goal
 
 pub returns-clause-strides : goal.returns-clause-strides
@@ -13,10 +16,13 @@ returns-clause-strides c image few are =
     let to = c.jump.new.going in
     let there = c.requires.there in
     let code : Code = code_of b image c.args.micros.now few are in
+    let many = as_many image c.args.micros.now are in
+    let inside = slice_get_within c.args.micros.now (from.at + 2) c.requires.jump.jump c.requires.jump.there in
     let jump = found_at c.args.micros.now (from.at + 2) _ c.requires.jump.jump c.index-micros-going.is c.requires.jump.there in
-    subst (λ (r : Bool). IsTried r (StridesBy image from b to b') from b to b') (sym c.jump.ensures.done)
-    (strides_by code 3 from to b b' c.jump.ensures.left (omega arith) c.jump.ensures.low
-    (λ w. call_goes code from.at to.at ((there.upper.imm + there.lower.imm) % 2 ^ 32) there.upper.rd w b b' refl there refl
+    subst (λ (r : Bool). IsTried r (StridesBy image (straight 3) from b to b') from b to b') (sym c.jump.ensures.done)
+    (strides_straight image 3 3 3 from to b b' c.jump.ensures.left (omega arith) (omega arith) (omega arith)
+    (omega (arith, inside, many)) c.jump.ensures.low
+    (call_goes code from.at to.at ((there.upper.imm + there.lower.imm) % 2 ^ 32) there.upper.rd b b' refl there refl
     refl c.requires.jump (c.jump.ensures.at ∙ ap (λ (m : MicroOp). m.imm) jump)
     (c.put_number.ensures.lane there.upper there.lower there.upper_there there.lower_there) c.put_number.ensures.local))
 

@@ -7,9 +7,12 @@ use Rattle.node_memory.specs.micro_op.Micro.{sum_address}
 use Rattle.node_memory.specs.jump_map.Strides.{op_of, state_look}
 use Rattle.node_memory.specs.node_model.Node.{ProcessorState, set_register}
 use Rattle.node_words.specs.Kept.{lane_of}
+use Rattle.node_words.specs.Strides.{checked}
 use Rattle.node_words.proofs.ReachLemmas.{Code, code_of}
 use Rattle.node_words.proofs.SequenceLemmas.{begins}
-use Rattle.node_words.proofs.WholeLemmas.{found_at, read_at, read_goes, stands_low, strides_by}
+use Rattle.node_words.proofs.StrideLemmas.{as_many}
+use Rattle.node_words.proofs.AlongLemmas.{strides_crossing}
+use Rattle.node_words.proofs.WholeLemmas.{found_at, read_at, read_goes, stands_low}
 use Rattle.node_words.specs.declared.exec_state.ExecState.{ExecState}
 use Rattle.node_words.proofs.UndoLogLemmas.{undoable_both, undoable_mild}
 use Rattle.node_words.proofs.exec_state.ExecState.read.Goals as goal
@@ -29,12 +32,16 @@ returns-in-Some-clause-strides c image few are =
     let element = slice_index_or micros (at + n + 8) c.index-micros-first-in-Some-2.result in
     let load : element ≡ there.load.access = read_at micros (at + n + 8) c.index-micros-first-in-Some-2.result there.load.access there.load.there in
     let is = c.sum_by.ensures ∙ ap (λ (m : MicroOp). sum_address m (registers_of b.lane.registers)) look in
+    let many = as_many image c.args.micros.now are in
+    let inside = there.next in
     let next = c.on.ensures.at in
+    let left = c.on.ensures.left in
     let some = c.requires.few in
     let last = stands_low code (at + n + 8) there.load.access there.load.there in
-    strides_by code (8 + 2 * n) c.args.going.now c.on.new.self b _ c.on.ensures.left (omega arith)
-    (omega (arith, next, some, last))
-    (λ w. read_goes code at c.on.new.self.at n c.sum_by.result c.in-Some.value _ _ _ w c.args.kind b _ refl some there
+    strides_crossing image (checked (9 + 2 * n) (1 + n)) (7 + n) (at + n + 8) (1 + n) c.args.going.now c.on.new.self b _
+    (omega (arith, left)) (omega arith) refl (omega (arith, next)) (omega arith) (omega arith) (omega arith)
+    (omega (arith, inside, many)) (omega (arith, next, some, last))
+    (read_goes code at c.on.new.self.at n c.sum_by.result c.in-Some.value _ _ _ c.args.kind b _ refl some there
     (ap (λ (m : MicroOp). m.rd) look) (ap (λ (m : MicroOp). m.rd) table) (ap (λ (m : MicroOp). m.rd) load) is
     c.in-Some.ensures.readable c.in-Some.ensures.value next
     (λ k. (λ i. record (lane_of c.leave.new.self.lane k) { registers = c.set.ensures i })

@@ -1,18 +1,36 @@
-use Rattle.std.proofs.Common.{refl, sym, subst, List, ap, ◌∙◌}
-use Rattle.std.specs.Prelude.{Vec}
-use Rattle.std.specs.declared.alloc.Global.{Global}
+-- Words that are noted, between where notes start and where they stop.
+use Rattle.std.proofs.Common.{List, ap, sym, subst, ◌∙◌}
+use Rattle.node_words.specs.declared.exec_state.ExecState.{ExecState}
 use Rattle.node_words.specs.declared.store_log.Note.{Note}
+use Rattle.node_words.specs.declared.undo_log.Saved.{Saved}
+use Rattle.node_words.specs.GoingOn.{BodyGoesOn}
 use Rattle.node_words.specs.UndoLogs.{TakesBack}
-use Rattle.node_words.proofs.UndoLogLemmas.{taken_none}
 use Rattle.node_words.proofs.exec_state.ExecState.run_noting.Goals as goal
+
+pub returns-clause-words : goal.returns-clause-words
+returns-clause-words c =
+    let run = c.run-progress in
+    let first = c.args.self.now in
+    subst (λ (x : ExecState). BodyGoesOn c.args.image.now c.args.most c.args.from first run.result.words run.result.at x)
+    (sym c.stop_noting.ensures.same)
+    (subst (λ (x : ExecState). BodyGoesOn c.args.image.now c.args.most c.args.from x run.result.words run.result.at run.new.self)
+    c.start_noting.ensures.same run.ensures.words)
 
 pub returns-clause-back : goal.returns-clause-back
 returns-clause-back c =
-    let b = c.args.self.now in
-    let saved = c.save-undo_log.result in
-    let none = ap (λ (v : Vec Note Global). v.items) c.swap.ensures.x_after ∙ c.clear.ensures.items in
-    let begun = subst (λ (ns : List Note). TakesBack saved ns b.lane b.local b.lane b.local) (sym none)
-    (taken_none saved b.lane b.local c.save-undo_log.ensures) in
-    let back = (c.run-progress.ensures.undoable refl).1 saved b.lane b.local begun in
-    let run = c.run-progress.new.self in
-    subst (λ (v : Vec Note Global). TakesBack saved v.items run.lane run.local b.lane b.local) (sym c.swap-2.ensures.y_after) back
+    let run = c.run-progress in
+    let first = c.args.self.now in
+    let saved = c.start_noting.new.undo_log.saved in
+    let stop = c.stop_noting in
+    let back = (run.ensures.undoable c.start_noting.ensures.on).1 saved first.lane first.local c.start_noting.ensures.back in
+    subst (λ (x : ExecState). TakesBack stop.new.undo_log.saved stop.new.undo_log.notes.items x.lane x.local first.lane first.local)
+    (sym stop.ensures.same)
+    (subst (λ (s : Saved). TakesBack s stop.new.undo_log.notes.items run.new.self.lane run.new.self.local first.lane first.local)
+    (sym stop.ensures.saved)
+    (subst (λ (ns : List Note). TakesBack saved ns run.new.self.lane run.new.self.local first.lane first.local)
+    (sym stop.ensures.notes) back))
+
+pub returns-clause-counts : goal.returns-clause-counts
+returns-clause-counts c =
+    ap (λ (x : ExecState). x.counts) c.stop_noting.ensures.same ∙ c.run-progress.ensures.counts
+    ∙ ap (λ (x : ExecState). x.counts) c.start_noting.ensures.same

@@ -6,10 +6,12 @@ use Rattle.node_memory.specs.micro_op.declared.MicroKind.TheVariants as kind
 use Rattle.node_memory.specs.micro_op.Micro.{sum_address}
 use Rattle.node_memory.specs.jump_map.Strides.{op_of, state_look}
 use Rattle.node_words.specs.declared.store_log.StoreLog.{StoreLog}
-use Rattle.node_words.specs.Strides.{IsStored}
+use Rattle.node_words.specs.Strides.{IsStored, checked}
 use Rattle.node_words.proofs.ReachLemmas.{Code, code_of}
 use Rattle.node_words.proofs.SequenceLemmas.{begins}
-use Rattle.node_words.proofs.WholeLemmas.{found_at, read_at, stands_low, strides_by, write_goes}
+use Rattle.node_words.proofs.StrideLemmas.{as_many}
+use Rattle.node_words.proofs.AlongLemmas.{strides_crossing}
+use Rattle.node_words.proofs.WholeLemmas.{found_at, read_at, stands_low, write_goes}
 use Rattle.node_words.specs.declared.exec_state.ExecState.{ExecState}
 use Rattle.node_words.proofs.UndoLogLemmas.{undoable_both, undoable_left, undoable_logged, undoable_refused}
 use Rattle.node_words.proofs.StrideLemmas.{store_leaves}
@@ -36,12 +38,16 @@ returns-then-put_checked-clause-strides c image few are =
     let f = registers_of b.lane.registers in
     let is = c.sum_by-address.ensures ∙ ap (λ (m : MicroOp). sum_address m f) look in
     let value = c.get-value.ensures ∙ ap (λ (m : MicroOp). reg f m.rs2) access in
+    let many = as_many image c.args.micros.now are in
+    let inside = there.next in
     let next = c.on.ensures.at in
+    let left = c.on.ensures.left in
     let some = c.requires.few in
     let last = stands_low code (at + n + 7) there.store.access there.store.there in
-    strides_by code (7 + 2 * n) c.args.going.now c.on.new.self b c.leave.new.self c.on.ensures.left (omega arith)
-    (omega (arith, next, some, last))
-    (λ w. write_goes code at c.on.new.self.at n c.sum_by-address.result c.get-value.result _ _ w c.args.width b c.put_checked.new.self
+    strides_crossing image (checked (8 + 2 * n) (1 + n)) (6 + n) (at + n + 7) (1 + n) c.args.going.now c.on.new.self b
+    c.leave.new.self (omega (arith, left)) (omega arith) refl (omega (arith, next)) (omega arith) (omega arith) (omega arith)
+    (omega (arith, inside, many)) (omega (arith, next, some, last))
+    (write_goes code at c.on.new.self.at n c.sum_by-address.result c.get-value.result _ _ c.args.width b c.put_checked.new.self
     c.leave.new.self refl some there (ap (λ (m : MicroOp). m.rd) look) (ap (λ (m : MicroOp). m.rd) table) is value
     (c.if-put_checked.ensures.writable refl) (logged_stored b c.put_checked.new.self c.admits.new.self c.args.width c.sum_by-address.result c.get-value.result c.if-put_checked.ensures.stores) next c.leave.ensures.lane
     c.leave.ensures.local)

@@ -2,9 +2,11 @@ use Rattle.std.proofs.Common.{rules, Fits, w64, ◌≡◌, ℕ, ◌+◌, ◌*◌
 use Rattle.std.proofs.lemmas.Nat.{and_mask}
 use Rattle.std.specs.Prelude.{bit_and, bit_or}
 use Rattle.node_memory.specs.jump_map.Strides.{skip}
-use Rattle.node_words.specs.Strides.{state_at}
+use Rattle.node_words.specs.Strides.{checked, state_at}
+use Rattle.node_words.proofs.StrideLemmas.{as_many}
+use Rattle.node_words.proofs.AlongLemmas.{strides_crossing}
 use Rattle.node_words.proofs.ReachLemmas.{Code, code_of}
-use Rattle.node_words.proofs.WholeLemmas.{stands_low, strides_by, write_head_goes}
+use Rattle.node_words.proofs.WholeLemmas.{stands_low, write_head_goes}
 use Rattle.node_words.proofs.exec_state.ExecState.write_head.Goals as goal
 
 -- a byte of which all bits are clear
@@ -21,12 +23,16 @@ returns-then-head-clause-strides c image few are =
     let there = c.requires.there in
     let h = there.head in
     let code : Code = code_of b image c.args.micros.now few are in
+    let many = as_many image c.args.micros.now are in
+    let inside = there.next in
     let next = c.on.ensures.at in
+    let left = c.on.ensures.left in
     let some = c.requires.few in
     let last = stands_low code (at + n + 10 + 0) (skip h.x.s (at + n + 15)) (there.test 0 _ refl) in
     let both = bit_or (state_at b h.x.base h.x.imm) (state_at b h.x.base h.high) in
-    strides_by code (11 + 2 * n) c.args.going.now c.on.new.self b c.head.new.self c.on.ensures.left (omega arith)
-    (omega (arith, next, some, last))
-    (λ w. write_head_goes code at c.on.new.self.at n w b c.head.new.self refl some there
+    strides_crossing image (checked (15 + 2 * n) n) (11 + n) (at + n + 15) n c.args.going.now c.on.new.self b c.head.new.self
+    (omega (arith, left)) (omega arith) refl (omega (arith, next)) (omega arith) (omega arith) (omega arith)
+    (omega (arith, inside, many)) (omega (arith, next, some, last))
+    (write_head_goes code at c.on.new.self.at n b c.head.new.self refl some there
     (no_bits both (c.if-head.ensures.small refl h) (c.if-head.ensures.clear refl h)) next (c.if-head.ensures.lane refl h)
     c.head.ensures.local)

@@ -5,7 +5,7 @@ use Rattle.std.proofs.lemmas.List.Sums.{sum_by-append}
 use Rattle.check_costs.specs.Tally.{Executed, first_label, tally_of}
 use Rattle.check_costs.proofs.Alike.{same_tally}
 use Rattle.run_trace.specs.replay.dsm_core.CoreParts.{CoreParts, core_of}
-use Rattle.run_trace.specs.node_machine.node_words.VisitTables.{visits_of}
+use Rattle.run_trace.specs.node_machine.word_visits.VisitTables.{visits_of}
 use Rattle.run_trace.specs.Tracing.{kinds_traced}
 use Rattle.run_costs.specs.Counting.{plan_in, word_by, words_by, words_seen, words_visited, work_in}
 use Rattle.run_costs.proofs.Counted.{nodes_seen}

@@ -1,7 +1,7 @@
 -- Words of a stretch, and which of them commit.
 use Rattle.std.proofs.Common.{refl}
 use Rattle.replay.specs.dsm_core.CoreParts.{core_of}
-use Rattle.replay.specs.node_machine.node_words.VisitTables.{visits_of}
+use Rattle.replay.specs.node_machine.word_visits.VisitTables.{visits_of}
 use Rattle.replay.specs.Way.{core_in}
 use Rattle.replay.proofs.Runs.{running_of}
 use Rattle.run_trace.specs.declared.tracer.Tracer.{Tracer}

@@ -1,0 +1,14 @@
+-- Words of every node are those of the core.
+use Rattle.std.proofs.Common.{slice_index_or}
+use Rattle.dsm_core.specs.CoreParts.{work_of, core_of}
+use Rattle.dsm_core.proofs.CoreRuns.{is_gone}
+use Rattle.dsm_core.proofs.UndoLogLemmas.{passed_or_kept}
+use Rattle.dsm_core.proofs.cores.Core.run_each_counting.Goals as goal
+
+pub invariant_of-self : goal.invariant_of-self
+invariant_of-self c =
+    let p = c.self.inside.parts in
+    let q = c.run_each_counting.new.self in
+    is_gone p q c.self.invariant c.run_each_counting.ensures.parts c.run_each_counting.ensures.work
+    (passed_or_kept c.run_each_counting.result (work_of p) (λ i. slice_index_or c.args.words.now i 0) (core_of p) (core_of q)
+    c.run_each_counting.ensures.passed c.run_each_counting.ensures.kept)

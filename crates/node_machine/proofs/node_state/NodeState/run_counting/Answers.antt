@@ -1,0 +1,132 @@
+use Rattle.std.proofs.Common.{◌+◌, ◌*◌, ◌∙◌, ap, sym, subst, refl, length, arith}
+use Rattle.block_layout.specs.Layout.{Shape}
+use Rattle.word_visits.specs.node_words.exec_map.Contents.{program_of}
+use Rattle.word_visits.specs.node_words.declared.exec_state.ExecState.{ExecState}
+use Rattle.word_visits.specs.node_words.node_model.Node.{can_execute}
+use Rattle.word_visits.specs.node_words.GoingOn.{BodyGoesOn}
+use Rattle.word_visits.specs.node_words.node_memory.Shelf.{Ground, ground_of}
+use Rattle.word_visits.specs.node_words.UndoLogs.{TakesBack}
+use Rattle.word_visits.specs.TallyBodies.{BodyHasSteps}
+use Rattle.word_visits.specs.TallyTables.{tallies_of}
+use Rattle.node_machine.specs.NodeState.{layout_of, phase_of, IsProtocolState, AreCountsBelow, WaitsInPhase}
+use Rattle.word_visits.proofs.words.WordLemmas.{still_may}
+use Rattle.node_machine.proofs.NodeStateLemmas.{counts_up}
+use Rattle.node_machine.proofs.UndoLogLemmas.{goes_on_noted, left_after, noted_waits, steps_noted}
+use Rattle.node_machine.proofs.node_state.NodeState.run_counting.Goals as goal
+
+pub returns-clause-goes_on : goal.returns-clause-goes_on
+returns-clause-goes_on c =
+    let i = c.args.self.now in
+    let run = c.run_counting_noting-stretch in
+    let most = c.most_words-most.result in
+    let body = c.deref_mut.ensures.value in
+    let on = subst (λ (x : ExecState). BodyGoesOn i.lane.image.now most i.lane.at x run.result.words run.result.at run.new.body) body run.ensures.words in
+    let counts = run.ensures.counts ∙ ap (λ (x : ExecState). x.counts) body in
+    let few = run.ensures.most in
+    let first = c.most_words-most.ensures.first in
+    let from = c.from.ensures in
+    let second = c.most_words-most.ensures.second in
+    let left = c.saturating_sub-left.ensures in
+    let budget = c.number.ensures.value in
+    goes_on_noted i run.new.body run.result.at most run.result.words c.phase_on-self.result on
+    (λ some. (c.requires.may (omega (arith, some, few, first, from)), (let low = c.requires.node.lane.going (c.requires.may (omega (arith, some, few, first, from))) in omega (arith, low, second, left, budget))))
+    counts c.phase_on-self.ensures
+
+pub returns-clause-may : goal.returns-clause-may
+returns-clause-may c may =
+    let i = c.args.self.now in
+    ap can_execute c.phase_on-self.ensures ∙ still_may (phase_of i.lane.phase) c.run_counting_noting-stretch.result.words may
+
+pub returns-clause-back : goal.returns-clause-back
+returns-clause-back c =
+    let run = c.run_counting_noting-stretch in
+    let body = c.deref_mut.ensures.value in
+    record {
+      words = subst (λ (x : ExecState). TakesBack run.new.undo_log.saved run.new.undo_log.notes.items run.new.body.lane run.new.body.local x.lane x.local) body run.ensures.back;
+      counts = run.ensures.counts ∙ ap (λ (x : ExecState). x.counts) body;
+      at = refl;
+      executed = refl;
+      stamp = refl;
+      phase = refl;
+      image = refl;
+      budget = refl;
+      protocol = refl;
+      byes = refl;
+      journal = refl;
+      noted = refl;
+      output = refl;
+      is_node = c.requires.node;
+    }
+
+pub returns-clause-work : goal.returns-clause-work
+returns-clause-work c =
+    let i = c.args.self.now in
+    let g = c.run_counting_noting-stretch.ensures.back.ground_same ∙ ap (λ (x : ExecState). ground_of x.local) c.deref_mut.ensures.value in
+    λ t. record { program = program_of (g t).program; image = i.lane.image.now; layout = (g t).layout; budget = i.lane.budget }
+
+pub returns-clause-node : goal.returns-clause-node
+returns-clause-node c =
+    let i = c.args.self.now in
+    let n = c.requires.node in
+    let run = c.run_counting_noting-stretch in
+    let most = c.most_words-most.result in
+    let words = run.result.words in
+    let behind = n.behind in
+    let within = n.lane.within in
+    let few = run.ensures.most in
+    let first = c.most_words-most.ensures.first in
+    let from = c.from.ensures in
+    let second = c.most_words-most.ensures.second in
+    let left = c.saturating_sub-left.ensures in
+    let budget = c.number.ensures.value in
+    let layout = ap (λ (g : Ground). g.layout) run.ensures.back.ground_same ∙ ap layout_of c.deref_mut.ensures.value in
+    let counts = run.ensures.counts ∙ ap (λ (b : ExecState). b.counts) c.deref_mut.ensures.value in
+    record {
+      lane = record {
+        within = omega (arith, within, few, second, left, budget);
+        going = λ may. left_after i words most n few (omega (arith, second, left, budget)) (ap can_execute (sym c.phase_on-self.ensures) ∙ may);
+        range = n.lane.range;
+        short = n.lane.short;
+      };
+      protocol = subst (λ (l : Shape). IsProtocolState l i.shared.protocol) (sym layout) n.protocol;
+      waits = subst (λ p. WaitsInPhase p (length i.shared.protocol.waits.waits)) (sym c.phase_on-self.ensures)
+          (noted_waits (phase_of i.lane.phase) words (length i.shared.protocol.waits.waits) (λ some. c.requires.may (omega (arith, some, few, first, from))) n.waits);
+      noted = n.noted;
+      behind = omega (arith, behind);
+      counts = counts_up (19 * i.shared.stamp) (19 * (i.shared.stamp + words)) run.new.body.counts (omega arith)
+          (subst (AreCountsBelow (19 * i.shared.stamp)) (sym counts) n.counts);
+    }
+
+pub returns-clause-tallied : goal.returns-clause-tallied
+returns-clause-tallied c =
+    let i = c.args.self.now in
+    let run = c.run_counting_noting-stretch in
+    let most = c.most_words-most.result in
+    let few = run.ensures.most in
+    let first = c.most_words-most.ensures.first in
+    let from = c.from.ensures in
+    let second = c.most_words-most.ensures.second in
+    let left = c.saturating_sub-left.ensures in
+    let budget = c.number.ensures.value in
+    let ts = tallies_of c.args.tallies.now in
+    let steps = subst (λ (x : ExecState). BodyHasSteps i.lane.image.now most i.lane.at x run.result.words ts run.result.steps)
+    c.deref_mut.ensures.value run.ensures.steps in
+    (steps_noted i most run.result.words ts run.result.steps steps
+    (λ some. (c.requires.may (omega (arith, some, few, first, from)), (let low = c.requires.node.lane.going (c.requires.may (omega (arith, some, few, first, from))) in omega (arith, low, second, left, budget))))).tallied
+
+pub returns-clause-steps : goal.returns-clause-steps
+returns-clause-steps c =
+    let i = c.args.self.now in
+    let run = c.run_counting_noting-stretch in
+    let most = c.most_words-most.result in
+    let few = run.ensures.most in
+    let first = c.most_words-most.ensures.first in
+    let from = c.from.ensures in
+    let second = c.most_words-most.ensures.second in
+    let left = c.saturating_sub-left.ensures in
+    let budget = c.number.ensures.value in
+    let ts = tallies_of c.args.tallies.now in
+    let steps = subst (λ (x : ExecState). BodyHasSteps i.lane.image.now most i.lane.at x run.result.words ts run.result.steps)
+    c.deref_mut.ensures.value run.ensures.steps in
+    (steps_noted i most run.result.words ts run.result.steps steps
+    (λ some. (c.requires.may (omega (arith, some, few, first, from)), (let low = c.requires.node.lane.going (c.requires.may (omega (arith, some, few, first, from))) in omega (arith, low, second, left, budget))))).count

@@ -1,0 +1,92 @@
+-- Helps the code alone: where the words of each kind of stride stand.
+use Rattle.std.specs.Prelude.{ℕ}
+use Rattle.node_memory.specs.jump_map.declared.strides.StrideKind.{StrideKind}
+use Rattle.node_memory.specs.jump_map.declared.strides.StrideKind.TheVariants as stride
+use Rattle.node_words.specs.Strides.{Trail, checked, flagged, straight}
+
+-- where the words of a stride of a kind stand, from the word of a number on; a slow one has none
+abbrev pub trail_of : StrideKind → (at : ℕ) → Trail
+trail_of stride.Slow at = straight 0
+trail_of stride.OverEq at = straight 2
+trail_of stride.OverNe at = straight 2
+trail_of stride.OverLt at = straight 2
+trail_of stride.OverGe at = straight 2
+trail_of stride.OverLtu at = straight 2
+trail_of stride.OverGeu at = straight 2
+trail_of stride.PollOverEq at = straight 3
+trail_of stride.PollOverNe at = straight 3
+trail_of stride.PollOverLt at = straight 3
+trail_of stride.PollOverGe at = straight 3
+trail_of stride.PollOverLtu at = straight 3
+trail_of stride.PollOverGeu at = straight 3
+trail_of stride.PollJump at = straight 2
+trail_of stride.PollEnter at = straight 2
+trail_of stride.Number at = straight 2
+trail_of stride.Call at = straight 3
+trail_of stride.ReadByte0 at = checked 9 1
+trail_of stride.ReadHalf0 at = checked 9 1
+trail_of stride.ReadWord0 at = checked 9 1
+trail_of stride.ReadByteU0 at = checked 9 1
+trail_of stride.ReadHalfU0 at = checked 9 1
+trail_of stride.ReadByte1 at = checked 11 2
+trail_of stride.ReadHalf1 at = checked 11 2
+trail_of stride.ReadWord1 at = checked 11 2
+trail_of stride.ReadByteU1 at = checked 11 2
+trail_of stride.ReadHalfU1 at = checked 11 2
+trail_of stride.ReadByte2 at = checked 13 3
+trail_of stride.ReadHalf2 at = checked 13 3
+trail_of stride.ReadWord2 at = checked 13 3
+trail_of stride.ReadByteU2 at = checked 13 3
+trail_of stride.ReadHalfU2 at = checked 13 3
+trail_of stride.WriteByte0 at = checked 8 1
+trail_of stride.WriteHalf0 at = checked 8 1
+trail_of stride.WriteWord0 at = checked 8 1
+trail_of stride.WriteByte1 at = checked 10 2
+trail_of stride.WriteHalf1 at = checked 10 2
+trail_of stride.WriteWord1 at = checked 10 2
+trail_of stride.WriteByte2 at = checked 12 3
+trail_of stride.WriteHalf2 at = checked 12 3
+trail_of stride.WriteWord2 at = checked 12 3
+trail_of stride.Flag0 at = flagged at 0
+trail_of stride.Flag1 at = flagged at 1
+trail_of stride.ReadHead0 at = checked 16 0
+trail_of stride.ReadHead1 at = checked 18 1
+trail_of stride.ReadHead2 at = checked 20 2
+trail_of stride.ReadHead3 at = checked 22 3
+trail_of stride.WriteHead0 at = checked 15 0
+trail_of stride.WriteHead1 at = checked 17 1
+trail_of stride.WriteHead2 at = checked 19 2
+trail_of stride.WriteHead3 at = checked 21 3
+trail_of stride.AddImmThenAddImm at = straight 2
+trail_of stride.AddImmThenAdd at = straight 2
+trail_of stride.AddThenAddImm at = straight 2
+trail_of stride.AddThenAdd at = straight 2
+trail_of stride.SllImmThenAddImm at = straight 2
+trail_of stride.SllImmThenAdd at = straight 2
+trail_of stride.MulThenAddImm at = straight 2
+trail_of stride.MulThenAdd at = straight 2
+trail_of stride.AddImmThenOverEq at = straight 3
+trail_of stride.AddImmThenOverNe at = straight 3
+trail_of stride.AddImmThenOverLt at = straight 3
+trail_of stride.AddImmThenOverGe at = straight 3
+trail_of stride.AddImmThenOverLtu at = straight 3
+trail_of stride.AddImmThenOverGeu at = straight 3
+trail_of stride.AddImmThenPollOverEq at = straight 4
+trail_of stride.AddImmThenPollOverNe at = straight 4
+trail_of stride.AddImmThenPollOverLt at = straight 4
+trail_of stride.AddImmThenPollOverGe at = straight 4
+trail_of stride.AddImmThenPollOverLtu at = straight 4
+trail_of stride.AddImmThenPollOverGeu at = straight 4
+trail_of stride.AddThenOverEq at = straight 3
+trail_of stride.AddThenOverNe at = straight 3
+trail_of stride.AddThenOverLt at = straight 3
+trail_of stride.AddThenOverGe at = straight 3
+trail_of stride.AddThenOverLtu at = straight 3
+trail_of stride.AddThenOverGeu at = straight 3
+trail_of stride.AddThenPollOverEq at = straight 4
+trail_of stride.AddThenPollOverNe at = straight 4
+trail_of stride.AddThenPollOverLt at = straight 4
+trail_of stride.AddThenPollOverGe at = straight 4
+trail_of stride.AddThenPollOverLtu at = straight 4
+trail_of stride.AddThenPollOverGeu at = straight 4
+trail_of is at = straight 1

@@ -1,0 +1,7 @@
+pub mod VisitLemmas
+pub mod TableLemmas
+pub mod PassLemmas
+pub mod CountingLemmas
+pub mod TallyLemmas
+pub mod SteppingLemmas
+pub use Rattle.node_words.proofs as words

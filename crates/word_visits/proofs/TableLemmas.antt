@@ -1,0 +1,687 @@
+-- Entries of a table of visits, and the stretches that they count.
+use Rattle.std.proofs.Common.{◌≡◌, ℕ, zero, suc, ◌+◌, ◌-◌, ◌<◌, ◌≤◌, Bool, true, Some, List, [], ◌∷◌, ◌++◌, length, map, set, take, drop, inl, inr, refl, sym, ap, ◌∙◌, subst, arith, append_assoc, append-nil}
+use Rattle.std.specs.Prelude.{◌⊎◌, ◌&&◌, nat_le, slice_index_or}
+use Rattle.std.proofs.Math.Seq.{take-append_seam}
+use Rattle.std.proofs.lemmas.Bool.{and_from, and_parts}
+use Rattle.std.proofs.lemmas.Bool.Decides.{eqb_tells, nat_tests}
+use Rattle.std.proofs.lemmas.List.{drop_all, get_or_append_left, get_or_default, get_or_push, length_push}
+use Rattle.node_words.specs.jump_map.Image.{Cell}
+use Rattle.node_words.specs.jump_map.declared.strides.StrideKind.{StrideKind}
+use Rattle.node_words.specs.jump_map.declared.strides.StrideKind.TheVariants.{Slow}
+use Rattle.node_words.specs.Trails.{trail_of}
+use Rattle.node_words.specs.Runs.{numbers_from}
+use Rattle.word_visits.specs.declared.visit.Visit.{Visit}
+use Rattle.word_visits.specs.Visits.{WordVisits, visited, visited_all, visits_at}
+use Rattle.word_visits.specs.Entries.{AreEntriesIn, AreFree, ArePartedAt, IsFree, IsServedAt, begun_in, is_ordered, looks_by, looks_in, once_begun, once_ended, slowed, visits_by, visits_in}
+
+-- 1. A stretch more begins at an entry, or ends before one
+
+abbrev pub begun_at : ℕ → List Visit → List Visit
+begun_at k [] = []
+begun_at zero (e ∷ es) = once_begun e ∷ es
+begun_at (suc k) (e ∷ es) = e ∷ begun_at k es
+
+abbrev pub ended_at : ℕ → List Visit → List Visit
+ended_at k [] = []
+ended_at zero (e ∷ es) = once_ended e ∷ es
+ended_at (suc k) (e ∷ es) = e ∷ ended_at k es
+
+pub set_begun : (es : List Visit) (k : ℕ) (d x : Visit) → k < length es → x ≡ once_begun (slice_index_or es k d)
+    → set es k x ≡ begun_at k es
+set_begun [] k d x below is = absurd (omega (arith, below))
+set_begun (e ∷ es) zero d x below is = ap (λ (y : Visit). y ∷ es) is
+set_begun (e ∷ es) (suc k) d x below is = ap (λ (ys : List Visit). e ∷ ys) (set_begun es k d x (omega (arith, below)) is)
+
+pub set_ended : (es : List Visit) (k : ℕ) (d x : Visit) → k < length es → x ≡ once_ended (slice_index_or es k d)
+    → set es k x ≡ ended_at k es
+set_ended [] k d x below is = absurd (omega (arith, below))
+set_ended (e ∷ es) zero d x below is = ap (λ (y : Visit). y ∷ es) is
+set_ended (e ∷ es) (suc k) d x below is = ap (λ (ys : List Visit). e ∷ ys) (set_ended es k d x (omega (arith, below)) is)
+
+pub ended_past : (es : List Visit) (k : ℕ) → length es ≤ k → ended_at k es ≡ es
+ended_past [] k past = refl
+ended_past (e ∷ es) zero past = absurd (omega (arith, past))
+ended_past (e ∷ es) (suc k) past = ap (λ (ys : List Visit). e ∷ ys) (ended_past es k (omega (arith, past)))
+
+begun_length : (es : List Visit) (k : ℕ) → length (begun_at k es) ≡ length es
+begun_length [] k = refl
+begun_length (e ∷ es) zero = refl
+begun_length (e ∷ es) (suc k) = let rest = begun_length es k in omega (arith, rest)
+
+-- both are set
+pub set_both : (es : List Visit) (k t : ℕ) (d f x : Visit) → k < length es → t < length es
+    → x ≡ once_begun (slice_index_or es k d)
+    → set (set es k x) t (once_ended (slice_index_or (set es k x) t f)) ≡ ended_at t (begun_at k es)
+set_both es k t d f x within inside is =
+    let one = set_begun es k d x within is in
+    let count = begun_length es k in
+    ap (λ (ys : List Visit). set ys t (once_ended (slice_index_or ys t f))) one
+    ∙ set_ended (begun_at k es) t f (once_ended (slice_index_or (begun_at k es) t f)) (omega (arith, inside, count)) refl
+
+-- or the first alone, where the other is behind the last
+pub set_first : (es : List Visit) (k t : ℕ) (d x : Visit) → k < length es → length es ≤ t
+    → x ≡ once_begun (slice_index_or es k d) → set es k x ≡ ended_at t (begun_at k es)
+set_first es k t d x within past is =
+    let count = begun_length es k in
+    set_begun es k d x within is ∙ sym (ended_past (begun_at k es) t (omega (arith, past, count)))
+
+-- what an entry has besides stays
+
+abbrev pub still : Visit → Visit
+still e = record e { begun = 0; ended = 0 }
+
+begun_still : (es : List Visit) (k j : ℕ) (d : Visit)
+    → still (slice_index_or (begun_at k es) j d) ≡ still (slice_index_or es j d)
+begun_still [] k j d = refl
+begun_still (e ∷ es) zero zero d = refl
+begun_still (e ∷ es) zero (suc j) d = refl
+begun_still (e ∷ es) (suc k) zero d = refl
+begun_still (e ∷ es) (suc k) (suc j) d = begun_still es k j d
+
+ended_still : (es : List Visit) (k j : ℕ) (d : Visit)
+    → still (slice_index_or (ended_at k es) j d) ≡ still (slice_index_or es j d)
+ended_still [] k j d = refl
+ended_still (e ∷ es) zero zero d = refl
+ended_still (e ∷ es) zero (suc j) d = refl
+ended_still (e ∷ es) (suc k) zero d = refl
+ended_still (e ∷ es) (suc k) (suc j) d = ended_still es k j d
+
+begun_looks : (es : List Visit) (k j : ℕ) → looks_in (begun_at k es) j ≡ looks_in es j
+begun_looks [] k j = refl
+begun_looks (e ∷ es) zero zero = refl
+begun_looks (e ∷ es) zero (suc j) = refl
+begun_looks (e ∷ es) (suc k) zero = refl
+begun_looks (e ∷ es) (suc k) (suc j) = begun_looks es k j
+
+ended_looks : (es : List Visit) (k j : ℕ) → looks_in (ended_at k es) j ≡ looks_in es j
+ended_looks [] k j = refl
+ended_looks (e ∷ es) zero zero = refl
+ended_looks (e ∷ es) zero (suc j) = refl
+ended_looks (e ∷ es) (suc k) zero = refl
+ended_looks (e ∷ es) (suc k) (suc j) = ended_looks es k j
+
+ended_length : (es : List Visit) (k : ℕ) → length (ended_at k es) ≡ length es
+ended_length [] k = refl
+ended_length (e ∷ es) zero = refl
+ended_length (e ∷ es) (suc k) = let rest = ended_length es k in omega (arith, rest)
+
+begun_sum : (es : List Visit) (k : ℕ) → begun_in (begun_at k es) ≤ begun_in es + 1
+begun_sum [] k = omega arith
+begun_sum (e ∷ es) zero = omega arith
+begun_sum (e ∷ es) (suc k) = let rest = begun_sum es k in omega (arith, rest)
+
+ended_sum : (es : List Visit) (k : ℕ) → begun_in (ended_at k es) ≡ begun_in es
+ended_sum [] k = refl
+ended_sum (e ∷ es) zero = refl
+ended_sum (e ∷ es) (suc k) = let rest = ended_sum es k in omega (arith, rest)
+
+-- no entry's count is above the sum of all
+pub one_begun : (es : List Visit) (k : ℕ) (d : Visit) → k < length es → (slice_index_or es k d).begun ≤ begun_in es
+one_begun [] k d below = absurd (omega (arith, below))
+one_begun (e ∷ es) zero d below = omega arith
+one_begun (e ∷ es) (suc k) d below = let rest = one_begun es k d (omega (arith, below)) in omega (arith, rest)
+
+-- at no entry more stretches ended than began before it, as a fact
+
+abbrev pub AreOrdered : (begun ended behind : ℕ) → List Visit → Type 0
+AreOrdered b d behind [] = d + behind ≡ b
+AreOrdered b d behind (e ∷ es) =
+    (d + e.ended ≤ b + e.begun) × AreOrdered (b + e.begun) (d + e.ended) behind es
+
+pub ordered_is : (b d h : ℕ) (es : List Visit) → is_ordered b d h es ≡ true → AreOrdered b d h es
+ordered_is b d h [] is = grind (arith, nat_tests)
+ordered_is b d h (e ∷ es) is =
+    let parts = and_parts (nat_le (d + e.ended) (b + e.begun)) (is_ordered (b + e.begun) (d + e.ended) h es) is in
+    let here = parts.0 in (
+      grind (arith, nat_tests),
+      ordered_is (b + e.begun) (d + e.ended) h es parts.1,
+    )
+
+pub is_of_ordered : (b d h : ℕ) (es : List Visit) → AreOrdered b d h es → is_ordered b d h es ≡ true
+is_of_ordered b d h [] are = grind (arith, nat_tests)
+is_of_ordered b d h (e ∷ es) are =
+    let here = are.0 in
+    let test : nat_le (d + e.ended) (b + e.begun) ≡ true = grind (arith, nat_tests) in
+    and_from (nat_le (d + e.ended) (b + e.begun)) (is_ordered (b + e.begun) (d + e.ended) h es) test
+    (is_of_ordered (b + e.begun) (d + e.ended) h es are.1)
+
+pub one_ended : (es : List Visit) (b d h k : ℕ) (x : Visit) → AreOrdered b d h es → k < length es
+    → (slice_index_or es k x).ended ≤ b + begun_in es
+one_ended [] b d h k x ordered below = absurd (omega (arith, below))
+one_ended (e ∷ es) b d h zero x ordered below = let here = ordered.0 in omega (arith, here)
+one_ended (e ∷ es) b d h (suc k) x ordered below =
+    let rest = one_ended es (b + e.begun) (d + e.ended) h k x ordered.1 (omega (arith, below)) in omega (arith, rest)
+
+pub few_behind : (es : List Visit) (b d h : ℕ) → AreOrdered b d h es → d + h ≤ b + begun_in es
+few_behind [] b d h ordered = omega (arith, ordered)
+few_behind (e ∷ es) b d h ordered =
+    let rest = few_behind es (b + e.begun) (d + e.ended) h ordered.1 in omega (arith, rest)
+
+-- 2. No more stretches end than begin
+
+ordered_both : (b d b' d' h : ℕ) (es : List Visit) → b' ≡ b + 1 → d' ≡ d + 1 → AreOrdered b d h es → AreOrdered b' d' h es
+ordered_both b d b' d' h [] begun ended ordered = omega (arith, begun, ended, ordered)
+ordered_both b d b' d' h (e ∷ es) begun ended ordered =
+    let here = ordered.0 in (
+      omega (arith, begun, ended, here),
+      ordered_both (b + e.begun) (d + e.ended) (b' + e.begun) (d' + e.ended) h es (omega (arith, begun)) (omega (arith, ended))
+          ordered.1,
+    )
+
+-- how many end behind the last, where one more ends before an entry
+abbrev pub EndsBehind : (h h' k : ℕ) → List Visit → Type 0
+EndsBehind h h' k es = (k < length es → h' ≡ h) × (length es ≤ k → h' ≡ h + 1)
+
+later : (h h' k : ℕ) (e : Visit) (es : List Visit) → EndsBehind h h' (suc k) (e ∷ es) → EndsBehind h h' k es
+later h h' k e es ends = (λ low. ends.0 (omega (arith, low)), λ high. ends.1 (omega (arith, high)))
+
+ordered_ended : (b d b' h h' k : ℕ) (es : List Visit) → b' ≡ b + 1 → EndsBehind h h' k es → AreOrdered b d h es
+    → AreOrdered b' d h' (ended_at k es)
+ordered_ended b d b' h h' k [] begun ends ordered =
+    let more = ends.1 (omega arith) in omega (arith, begun, ordered, more)
+ordered_ended b d b' h h' zero (e ∷ es) begun ends ordered =
+    let here = ordered.0 in
+    let same = ends.0 (omega arith) in (
+      omega (arith, begun, here),
+      ordered_both (b + e.begun) (d + e.ended) (b' + e.begun) (d + (e.ended + 1)) h' es (omega (arith, begun)) (omega arith)
+          (subst (λ (x : ℕ). AreOrdered (b + e.begun) (d + e.ended) x es) (sym same) ordered.1),
+    )
+ordered_ended b d b' h h' (suc k) (e ∷ es) begun ends ordered =
+    let here = ordered.0 in (
+      omega (arith, begun, here),
+      ordered_ended (b + e.begun) (d + e.ended) (b' + e.begun) h h' k es (omega (arith, begun)) (later h h' k e es ends)
+          ordered.1,
+    )
+
+ordered_stretch : (b d h h' k t : ℕ) (es : List Visit) → k < t → k < length es → EndsBehind h h' t es → AreOrdered b d h es
+    → AreOrdered b d h' (ended_at t (begun_at k es))
+ordered_stretch b d h h' k t [] some within ends ordered = absurd (omega (arith, within))
+ordered_stretch b d h h' k zero (e ∷ es) some within ends ordered = absurd (omega (arith, some))
+ordered_stretch b d h h' zero (suc t) (e ∷ es) some within ends ordered =
+    let here = ordered.0 in (
+      omega (arith, here),
+      ordered_ended (b + e.begun) (d + e.ended) (b + (e.begun + 1)) h h' t es (omega arith) (later h h' t e es ends) ordered.1,
+    )
+ordered_stretch b d h h' (suc k) (suc t) (e ∷ es) some within ends ordered = (
+  ordered.0,
+  ordered_stretch (b + e.begun) (d + e.ended) h h' k t es (omega (arith, some)) (omega (arith, within)) (later h h' t e es ends)
+      ordered.1,
+)
+
+-- 3. The words of a stretch were executed once more
+
+abbrev more : WordVisits → WordVisits
+more v = record v { times = v.times + 1 }
+
+abbrev bumped : (k n : ℕ) → List WordVisits → List WordVisits
+bumped zero zero vs = vs
+bumped zero (suc n) [] = []
+bumped zero (suc n) (v ∷ vs) = more v ∷ bumped zero n vs
+bumped (suc k) n [] = []
+bumped (suc k) n (v ∷ vs) = v ∷ bumped k n vs
+
+bumped_none : (k : ℕ) (vs : List WordVisits) → bumped k 0 vs ≡ vs
+bumped_none zero vs = refl
+bumped_none (suc k) [] = refl
+bumped_none (suc k) (v ∷ vs) = ap (λ (ws : List WordVisits). v ∷ ws) (bumped_none k vs)
+
+bumped_one : (k j n : ℕ) (vs : List WordVisits) → j ≡ k + 1 → bumped j n (visited k vs) ≡ bumped k (suc n) vs
+bumped_one k zero n vs is = absurd (omega (arith, is))
+bumped_one zero (suc j) n [] is = refl
+bumped_one zero (suc j) n (v ∷ vs) is =
+    let none : j ≡ 0 = omega (arith, is) in
+    ap (λ (i : ℕ). more v ∷ bumped i n vs) none
+bumped_one (suc k) (suc j) n [] is = refl
+bumped_one (suc k) (suc j) n (v ∷ vs) is = ap (λ (ws : List WordVisits). v ∷ ws) (bumped_one k j n vs (omega (arith, is)))
+
+all_bumped : (k n : ℕ) (vs : List WordVisits) → visited_all (numbers_from k n) vs ≡ bumped k n vs
+all_bumped k zero vs = sym (bumped_none k vs)
+all_bumped k (suc n) vs = all_bumped (k + 1) n (visited k vs) ∙ bumped_one k (k + 1) n vs refl
+
+visits_both : (b d b' d' : ℕ) (es : List Visit) → b' ≡ b + 1 → d' ≡ d + 1 → visits_in b' d' es ≡ visits_in b d es
+visits_both b d b' d' [] begun ended = refl
+visits_both b d b' d' (e ∷ es) begun ended =
+    let times : b' + e.begun - (d' + e.ended) ≡ b + e.begun - (d + e.ended) = omega (arith, begun, ended) in
+    let rest = visits_both (b + e.begun) (d + e.ended) (b' + e.begun) (d' + e.ended) es (omega (arith, begun)) (omega (arith, ended)) in
+    λ t. record { times = times t; looks = looks_by e.op.kind e.op.imm } ∷ rest t
+
+visits_ended : (b d b' h n : ℕ) (es : List Visit) → b' ≡ b + 1 → AreOrdered b d h es
+    → visits_in b' d (ended_at n es) ≡ bumped 0 n (visits_in b d es)
+visits_ended b d b' h zero [] begun ordered = refl
+visits_ended b d b' h (suc n) [] begun ordered = refl
+visits_ended b d b' h zero (e ∷ es) begun ordered =
+    let times : b' + e.begun - (d + (e.ended + 1)) ≡ b + e.begun - (d + e.ended) = omega (arith, begun) in
+    let rest = visits_both (b + e.begun) (d + e.ended) (b' + e.begun) (d + (e.ended + 1)) es (omega (arith, begun)) (omega arith) in
+    λ t. record { times = times t; looks = looks_by e.op.kind e.op.imm } ∷ rest t
+visits_ended b d b' h (suc n) (e ∷ es) begun ordered =
+    let here = ordered.0 in
+    let times : b' + e.begun - (d + e.ended) ≡ b + e.begun - (d + e.ended) + 1 = omega (arith, begun, here) in
+    let rest = visits_ended (b + e.begun) (d + e.ended) (b' + e.begun) h n es (omega (arith, begun)) ordered.1 in
+    λ t. record { times = times t; looks = looks_by e.op.kind e.op.imm } ∷ rest t
+
+visits_stretch : (b d h k n t : ℕ) (es : List Visit) → k + n ≡ t → 0 < n → AreOrdered b d h es
+    → visits_in b d (ended_at t (begun_at k es)) ≡ bumped k n (visits_in b d es)
+visits_stretch b d h zero zero t es sum some ordered = absurd (omega (arith, some))
+visits_stretch b d h zero (suc n) t [] sum some ordered = refl
+visits_stretch b d h zero (suc n) zero (e ∷ es) sum some ordered = absurd (omega (arith, sum))
+visits_stretch b d h zero (suc n) (suc t) (e ∷ es) sum some ordered =
+    let here = ordered.0 in
+    let same : t ≡ n = omega (arith, sum) in
+    let times : b + (e.begun + 1) - (d + e.ended) ≡ b + e.begun - (d + e.ended) + 1 = omega (arith, here) in
+    let rest = visits_ended (b + e.begun) (d + e.ended) (b + (e.begun + 1)) h n es (omega arith) ordered.1 in
+    (λ i. record { times = times i; looks = looks_by e.op.kind e.op.imm }
+    ∷ visits_in (b + (e.begun + 1)) (d + e.ended) (ended_at (same i) es))
+    ∙ ap (λ (ws : List WordVisits). more (visits_by (b + e.begun) (d + e.ended) e) ∷ ws) rest
+visits_stretch b d h (suc k) n t [] sum some ordered = refl
+visits_stretch b d h (suc k) n zero (e ∷ es) sum some ordered = absurd (omega (arith, sum))
+visits_stretch b d h (suc k) n (suc t) (e ∷ es) sum some ordered =
+    ap (λ (ws : List WordVisits). visits_by (b + e.begun) (d + e.ended) e ∷ ws)
+    (visits_stretch (b + e.begun) (d + e.ended) h k n t es (omega (arith, sum)) some ordered.1)
+
+-- 4. All of it, of a stretch from one number to another
+
+pub record IsStretched (first end h' : ℕ) (old new : List Visit) : Type 0 where
+  pub count : length new ≡ length old
+  pub visits : visits_in 0 0 new ≡ visited_all (numbers_from first (end - first)) (visits_in 0 0 old)
+  pub entry : (j : ℕ) (d : Visit) → still (slice_index_or new j d) ≡ still (slice_index_or old j d)
+  pub looks : (j : ℕ) → looks_in new j ≡ looks_in old j
+  pub ordered : is_ordered 0 0 h' new ≡ true
+  pub begun : begun_in new ≤ begun_in old + 1
+
+pub stretched : (first end h h' : ℕ) (es new : List Visit) → first < end → end ≤ length es → is_ordered 0 0 h es ≡ true
+    → EndsBehind h h' end es → new ≡ ended_at end (begun_at first es) → IsStretched first end h' es new
+stretched first end h h' es new some within ordered ends is =
+    let are = ordered_is 0 0 h es ordered in
+    let least = begun_sum es first in
+    let most = ended_sum (begun_at first es) end in
+    let one = begun_length es first in
+    let two = ended_length (begun_at first es) end in
+    let stretch : IsStretched first end h' es (ended_at end (begun_at first es)) = record {
+      count = omega (arith, one, two);
+      visits = visits_stretch 0 0 h first (end - first) end es (omega (arith, some)) (omega (arith, some)) are
+          ∙ sym (all_bumped first (end - first) (visits_in 0 0 es));
+      entry = λ j d. ended_still (begun_at first es) end j d ∙ begun_still es first j d;
+      looks = λ j. ended_looks (begun_at first es) end j ∙ begun_looks es first j;
+      ordered = is_of_ordered 0 0 h' (ended_at end (begun_at first es))
+          (ordered_stretch 0 0 h h' first end es some (omega (arith, some, within)) ends are);
+      begun = omega (arith, least, most);
+    } in
+    subst (IsStretched first end h' es) (sym is) stretch
+
+-- of which the end is before an entry, or behind the last
+
+pub stretch_within : (first end h : ℕ) (es : List Visit) (d f x y : Visit) → first < end → end < length es
+    → is_ordered 0 0 h es ≡ true → x ≡ once_begun (slice_index_or es first d)
+    → y ≡ once_ended (slice_index_or (set es first x) end f) → IsStretched first end h es (set (set es first x) end y)
+stretch_within first end h es d f x y some below ordered is ends =
+    stretched first end h h es (set (set es first x) end y) some (omega (arith, below)) ordered
+    (λ _. refl, λ past. absurd (omega (arith, past, below)))
+    (ap (λ (z : Visit). set (set es first x) end z) ends
+    ∙ set_both es first end d f x (omega (arith, some, below)) below is)
+
+pub stretch_last : (first end h : ℕ) (es : List Visit) (d x : Visit) → first < end → end ≤ length es → length es ≤ end
+    → is_ordered 0 0 h es ≡ true → x ≡ once_begun (slice_index_or es first d)
+    → IsStretched first end (h + 1) es (set es first x)
+stretch_last first end h es d x some within past ordered is =
+    stretched first end h (h + 1) es (set es first x) some within ordered
+    (λ low. absurd (omega (arith, past, low)), λ _. refl)
+    (set_first es first end d x (omega (arith, some, within)) past is)
+
+-- what entries say of a word that looks
+pub looks_said : (b d : ℕ) (es : List Visit) (k : ℕ) → (visits_at (visits_in b d es) k).looks ≡ looks_in es k
+looks_said b d [] k = refl
+looks_said b d (e ∷ es) zero = refl
+looks_said b d (e ∷ es) (suc k) = looks_said (b + e.begun) (d + e.ended) es k
+
+pub looks_entry : (es : List Visit) (k : ℕ) (d : Visit) → k < length es
+    → looks_in es k ≡ looks_by (slice_index_or es k d).op.kind (slice_index_or es k d).op.imm
+looks_entry [] k d below = absurd (omega (arith, below))
+looks_entry (e ∷ es) zero d below = refl
+looks_entry (e ∷ es) (suc k) d below = looks_entry es k d (omega (arith, below))
+
+pub length_visits : (b d : ℕ) (es : List Visit) → length (visits_in b d es) ≡ length es
+length_visits b d [] = refl
+length_visits b d (e ∷ es) = let rest = length_visits (b + e.begun) (d + e.ended) es in omega (arith, rest)
+
+-- 5. An entry whose stride is no longer counted at once
+
+abbrev pub slowed_at : ℕ → List Visit → List Visit
+slowed_at k [] = []
+slowed_at zero (e ∷ es) = slowed e ∷ es
+slowed_at (suc k) (e ∷ es) = e ∷ slowed_at k es
+
+pub set_slowed : (es : List Visit) (k : ℕ) (d x : Visit) → k < length es → x ≡ slowed (slice_index_or es k d)
+    → set es k x ≡ slowed_at k es
+set_slowed [] k d x below is = absurd (omega (arith, below))
+set_slowed (e ∷ es) zero d x below is = ap (λ (y : Visit). y ∷ es) is
+set_slowed (e ∷ es) (suc k) d x below is = ap (λ (ys : List Visit). e ∷ ys) (set_slowed es k d x (omega (arith, below)) is)
+
+pub slowed_visits : (k b d : ℕ) (es : List Visit) → visits_in b d (slowed_at k es) ≡ visits_in b d es
+slowed_visits k b d [] = refl
+slowed_visits zero b d (e ∷ es) = refl
+slowed_visits (suc k) b d (e ∷ es) =
+    ap (λ (vs : List WordVisits). visits_by (b + e.begun) (d + e.ended) e ∷ vs)
+    (slowed_visits k (b + e.begun) (d + e.ended) es)
+
+pub slowed_looks : (es : List Visit) (k j : ℕ) → looks_in (slowed_at k es) j ≡ looks_in es j
+slowed_looks [] k j = refl
+slowed_looks (e ∷ es) zero zero = refl
+slowed_looks (e ∷ es) zero (suc j) = refl
+slowed_looks (e ∷ es) (suc k) zero = refl
+slowed_looks (e ∷ es) (suc k) (suc j) = slowed_looks es k j
+
+pub slowed_begun : (es : List Visit) (k : ℕ) → begun_in (slowed_at k es) ≡ begun_in es
+slowed_begun [] k = refl
+slowed_begun (e ∷ es) zero = refl
+slowed_begun (e ∷ es) (suc k) = let rest = slowed_begun es k in omega (arith, rest)
+
+pub slowed_ordered : (k b d h : ℕ) (es : List Visit) → is_ordered b d h (slowed_at k es) ≡ is_ordered b d h es
+slowed_ordered k b d h [] = refl
+slowed_ordered zero b d h (e ∷ es) = refl
+slowed_ordered (suc k) b d h (e ∷ es) =
+    ap (λ (t : Bool). nat_le (d + e.ended) (b + e.begun) && t) (slowed_ordered k (b + e.begun) (d + e.ended) h es)
+
+pub slowed_length : (es : List Visit) (k : ℕ) → length (slowed_at k es) ≡ length es
+slowed_length [] k = refl
+slowed_length (e ∷ es) zero = refl
+slowed_length (e ∷ es) (suc k) = let rest = slowed_length es k in omega (arith, rest)
+
+slowed_op : (es : List Visit) (k j : ℕ) (d : Visit) → (slice_index_or (slowed_at k es) j d).op ≡ (slice_index_or es j d).op
+slowed_op [] k j d = refl
+slowed_op (e ∷ es) zero zero d = refl
+slowed_op (e ∷ es) zero (suc j) d = refl
+slowed_op (e ∷ es) (suc k) zero d = refl
+slowed_op (e ∷ es) (suc k) (suc j) d = slowed_op es k j d
+
+-- its kind is slow or what it was
+pub slowed_kind : (es : List Visit) (k j : ℕ) (d : Visit)
+    → ((slice_index_or (slowed_at k es) j d).kind ≡ Slow) ⊎ ((slice_index_or (slowed_at k es) j d).kind ≡ (slice_index_or es j d).kind)
+slowed_kind [] k j d = inr refl
+slowed_kind (e ∷ es) zero zero d = inl refl
+slowed_kind (e ∷ es) zero (suc j) d = inr refl
+slowed_kind (e ∷ es) (suc k) zero d = inr refl
+slowed_kind (e ∷ es) (suc k) (suc j) d = slowed_kind es k j d
+
+pub slowed_here : (es : List Visit) (k : ℕ) (d : Visit) → k < length es → (slice_index_or (slowed_at k es) k d).kind ≡ Slow
+slowed_here [] k d below = absurd (omega (arith, below))
+slowed_here (e ∷ es) zero d below = refl
+slowed_here (e ∷ es) (suc k) d below = slowed_here es k d (omega (arith, below))
+
+-- a slow stride goes over no word
+slow_free : (looks : ℕ → Bool) (k : ℕ) → IsFree looks k Slow
+slow_free looks k = record { short = omega arith; free = λ x low high. absurd (omega (arith, low, high)) }
+
+same_looks : (looks also : ℕ → Bool) (k : ℕ) (kind : StrideKind) → ((x : ℕ) → also x ≡ looks x) → IsFree looks k kind
+    → IsFree also k kind
+same_looks looks also k kind same free = record {
+  short = free.short;
+  free = λ x low high is. free.free x low high (sym (same x) ∙ is);
+}
+
+pub slowed_free : (es : List Visit) (k : ℕ) → AreFree es → AreFree (slowed_at k es)
+slowed_free es k free = λ j d below.
+    let count = slowed_length es k in
+    elim (slowed_kind es k j d) [
+      | inl is ↦ subst (IsFree (looks_in (slowed_at k es)) j) (sym is) (slow_free (looks_in (slowed_at k es)) j)
+      | inr is ↦ subst (IsFree (looks_in (slowed_at k es)) j) (sym is)
+          (same_looks (looks_in es) (looks_in (slowed_at k es)) j (slice_index_or es j d).kind (slowed_looks es k)
+          (free j d (omega (arith, below, count))))
+    ]
+
+pub slowed_entries : (image : List Cell) (es : List Visit) (k : ℕ) → AreEntriesIn image es → AreEntriesIn image (slowed_at k es)
+slowed_entries image es k are = λ j d below.
+    let count = slowed_length es k in
+    subst (IsServedAt image j) (sym (slowed_op es k j d)) (are j d (omega (arith, below, count)))
+
+-- the last entries up to a number are parted
+pub record ArePartedBelow (number : ℕ) (old es : List Visit) : Type 0 where
+  pub count : length es ≡ length old
+  pub visits : (begun ended : ℕ) → visits_in begun ended es ≡ visits_in begun ended old
+  pub looks : (k : ℕ) → looks_in es k ≡ looks_in old k
+  pub begun : begun_in es ≡ begun_in old
+  pub ordered : (begun ended behind : ℕ) → is_ordered begun ended behind es ≡ is_ordered begun ended behind old
+  pub entries : (image : List Cell) → AreEntriesIn image old → AreEntriesIn image es
+  pub free : AreFree es
+  pub parted : (k : ℕ) (d : Visit) → length es - 22 ≤ k → k < number
+      → length es < k + (trail_of (slice_index_or es k d).kind k).reach
+      → (trail_of (slice_index_or es k d).kind k).told ≡ Some (length es)
+
+pub none_parted : (number : ℕ) (es : List Visit) → number ≤ length es - 22 → AreFree es → ArePartedBelow number es es
+none_parted number es from free = record {
+  count = refl;
+  visits = λ begun ended. refl;
+  looks = λ k. refl;
+  begun = refl;
+  ordered = λ begun ended behind. refl;
+  entries = λ image are. are;
+  free = free;
+  parted = λ k d low high over. absurd (omega (arith, from, low, high));
+}
+
+-- the next one goes over nothing
+pub parted_clear : (number count : ℕ) (old es : List Visit) (x : Visit) → number < length es → count ≡ length es
+    → ((at : ℕ) → count - number < (trail_of (slice_index_or es number x).kind at).reach
+    → (trail_of (slice_index_or es number x).kind at).told ≡ Some (at + (count - number)))
+    → ArePartedBelow number old es → ArePartedBelow (number + 1) old es
+parted_clear number count old es x below same_count clear are = record {
+  count = are.count;
+  visits = are.visits;
+  looks = are.looks;
+  begun = are.begun;
+  ordered = are.ordered;
+  entries = are.entries;
+  free = are.free;
+  parted = λ k d low high over. elim (eqb_tells k number) [
+    | inl same ↦
+        let here = same.1 in
+        let there : number + (count - number) ≡ length es = omega (arith, below, same_count) in
+        let entry : slice_index_or es number x ≡ slice_index_or es k d =
+        get_or_default es number x d below ∙ ap (λ (i : ℕ). slice_index_or es i d) (sym here) in
+        let far = subst (λ (e : Visit). count - number < (trail_of e.kind k).reach) (sym entry)
+        (omega (arith, over, here, below, same_count)) in
+        subst (λ (e : Visit). (trail_of e.kind k).told ≡ Some (length es)) entry
+        (clear k far ∙ (λ t. Some (here t + (count - number))) ∙ ap (λ (n : ℕ). Some n) there)
+    | inr apart ↦ (let other = apart.1 in are.parted k d low (omega (arith, high, other)) over)
+  ];
+}
+
+-- or no longer does
+pub parted_slow : (number : ℕ) (old es : List Visit) → number < length es → ArePartedBelow number old es
+    → ArePartedBelow (number + 1) old (slowed_at number es)
+parted_slow number old es below are =
+    let new = slowed_at number es in
+    let count = slowed_length es number in
+    let begun = slowed_begun es number in
+    record {
+      count = count ∙ are.count;
+      visits = λ b d. slowed_visits number b d es ∙ are.visits b d;
+      looks = λ k. slowed_looks es number k ∙ are.looks k;
+      begun = begun ∙ are.begun;
+      ordered = λ b d h. slowed_ordered number b d h es ∙ are.ordered b d h;
+      entries = λ image old_are. slowed_entries image es number (are.entries image old_are);
+      free = slowed_free es number are.free;
+      parted = λ k d low high over. elim (eqb_tells k number) [
+        | inl same ↦
+            let here = same.1 in
+            let slow = subst (λ (i : ℕ). (slice_index_or new i d).kind ≡ Slow) (sym here) (slowed_here es number d below) in
+            let none : (trail_of (slice_index_or new k d).kind k).reach ≡ 0 = ap (λ (q : StrideKind). (trail_of q k).reach) slow in
+            absurd (omega (arith, over, none, here, below, count))
+        | inr apart ↦
+            let other = apart.1 in
+            elim (slowed_kind es number k d) [
+              | inl slow ↦
+                  let none : (trail_of (slice_index_or new k d).kind k).reach ≡ 0 = ap (λ (q : StrideKind). (trail_of q k).reach) slow in
+                  absurd (omega (arith, over, none, high, other, below, count))
+              | inr kind ↦
+                  let far = subst (λ (q : StrideKind). length new < k + (trail_of q k).reach) kind over in
+                  subst (λ (q : StrideKind). (trail_of q k).told ≡ Some (length new)) (sym kind)
+                  (are.parted k d (omega (arith, low, count)) (omega (arith, high, other)) (omega (arith, far, count))
+                  ∙ ap (λ (n : ℕ). Some n) (sym count))
+            ]
+      ];
+    }
+
+-- all of them
+pub all_parted : (number : ℕ) (old es : List Visit) → length es ≤ number → ArePartedBelow number old es
+    → ArePartedAt (length es) es
+all_parted number old es past are = λ k d below over.
+    let short = (are.free k d below).short in
+    are.parted k d (omega (arith, over, short)) (omega (arith, below, past)) over
+
+-- 6. What a stretch leaves
+
+pub stretched_free : (first end h' : ℕ) (es new : List Visit) → IsStretched first end h' es new → AreFree es → AreFree new
+stretched_free first end h' es new is free = λ j d below.
+    let count = is.count in
+    subst (IsFree (looks_in new) j) (sym (ap (λ (e : Visit). e.kind) (is.entry j d)))
+    (same_looks (looks_in es) (looks_in new) j (slice_index_or es j d).kind is.looks (free j d (omega (arith, below, count))))
+
+pub stretched_entries : (image : List Cell) (first end h' : ℕ) (es new : List Visit) → IsStretched first end h' es new
+    → AreEntriesIn image es → AreEntriesIn image new
+stretched_entries image first end h' es new is are = λ j d below.
+    let count = is.count in
+    subst (IsServedAt image j) (sym (ap (λ (e : Visit). e.op) (is.entry j d))) (are j d (omega (arith, below, count)))
+
+-- 7. One more entry
+
+pub visits_push : (b d h : ℕ) (es : List Visit) (e : Visit) (v : WordVisits) → AreOrdered b d h es → e.begun ≡ 0
+    → e.ended ≡ h → v ≡ record { times = 0; looks = looks_by e.op.kind e.op.imm }
+    → visits_in b d (es ++ e ∷ []) ≡ visits_in b d es ++ v ∷ []
+visits_push b d h [] e v ordered begun ended is =
+    let times : b + e.begun - (d + e.ended) ≡ 0 = omega (arith, ordered, begun, ended) in
+    (λ t. record { times = times t; looks = looks_by e.op.kind e.op.imm } ∷ []) ∙ ap (λ (w : WordVisits). w ∷ []) (sym is)
+visits_push b d h (x ∷ es) e v ordered begun ended is =
+    ap (λ (vs : List WordVisits). visits_by (b + x.begun) (d + x.ended) x ∷ vs)
+    (visits_push (b + x.begun) (d + x.ended) h es e v ordered.1 begun ended is)
+
+pub ordered_push : (b d h : ℕ) (es : List Visit) (e : Visit) → AreOrdered b d h es → e.begun ≡ 0 → e.ended ≡ h
+    → AreOrdered b d 0 (es ++ e ∷ [])
+ordered_push b d h [] e ordered begun ended =
+    (omega (arith, ordered, begun, ended), omega (arith, ordered, begun, ended))
+ordered_push b d h (x ∷ es) e ordered begun ended =
+    (ordered.0, ordered_push (b + x.begun) (d + x.ended) h es e ordered.1 begun ended)
+
+pub begun_push : (es : List Visit) (e : Visit) → e.begun ≡ 0 → begun_in (es ++ e ∷ []) ≡ begun_in es
+begun_push [] e begun = omega (arith, begun)
+begun_push (x ∷ es) e begun = let rest = begun_push es e begun in omega (arith, rest)
+
+pub entries_push : (image : List Cell) (es : List Visit) (e : Visit) → IsServedAt image (length es) e.op
+    → AreEntriesIn image es → AreEntriesIn image (es ++ e ∷ [])
+entries_push image es e served are = λ k d below.
+    let sum : length (es ++ e ∷ []) ≡ length es + 1 = length_push es e in
+    elim (eqb_tells k (length es)) [
+      | inl same ↦ subst (λ (i : ℕ). IsServedAt image i (slice_index_or (es ++ e ∷ []) i d).op) (sym same.1)
+          (subst (λ (y : Visit). IsServedAt image (length es) y.op) (sym (get_or_push es e d (length es) refl)) served)
+      | inr apart ↦
+          let other = apart.1 in
+          let within : k < length es = omega (arith, below, sum, other) in
+          subst (λ (y : Visit). IsServedAt image k y.op) (sym (get_or_append_left es (e ∷ []) d k within)) (are k d within)
+    ]
+
+looks_push : (es : List Visit) (e : Visit) (x : ℕ) → looks_in (es ++ e ∷ []) x ≡ true
+    → (looks_in es x ≡ true) ⊎ ((x ≡ length es) × (looks_by e.op.kind e.op.imm ≡ true))
+looks_push [] e zero is = inr (refl, is)
+looks_push [] e (suc x) is = absurd (cc)
+looks_push (y ∷ es) e zero is = inl is
+looks_push (y ∷ es) e (suc x) is = elim (looks_push es e x is) [
+  | inl old ↦ inl old
+  | inr new ↦ (let end = new.0 in inr (omega (arith, end), new.1))
+]
+
+looks_within : (es : List Visit) (x : ℕ) → looks_in es x ≡ true → x < length es
+looks_within [] x is = absurd (cc)
+looks_within (e ∷ es) zero is = omega arith
+looks_within (e ∷ es) (suc x) is = let rest = looks_within es x is in omega (arith, rest)
+
+pub free_push : (es : List Visit) (e : Visit) → AreFree es → ((at : ℕ) → (trail_of e.kind at).reach ≤ 22)
+    → (looks_by e.op.kind e.op.imm ≡ true → (e.kind ≡ Slow) × ArePartedAt (length es) es) → AreFree (es ++ e ∷ [])
+free_push es e free short looks = λ k d below.
+    let sum : length (es ++ e ∷ []) ≡ length es + 1 = length_push es e in
+    let new = looks_in (es ++ e ∷ []) in
+    elim (eqb_tells k (length es)) [
+      | inl same ↦ subst (λ (y : Visit). IsFree new k y.kind) (sym (get_or_push es e d k (sym same.1))) (record {
+        short = short k;
+        free = λ x low high is. elim (looks_push es e x is) [
+          | inl old ↦ (let within = looks_within es x old in let here = same.1 in absurd (omega (arith, within, low, here)))
+          | inr one ↦ (let slow = (looks one.1).0 in
+              let none : (trail_of e.kind k).reach ≡ 0 = ap (λ (q : StrideKind). (trail_of q k).reach) slow in
+              absurd (omega (arith, low, high, none)))
+        ];
+      })
+      | inr apart ↦
+          let other = apart.1 in
+          let within : k < length es = omega (arith, below, sum, other) in
+          let old = free k d within in
+          let kind = (slice_index_or es k d).kind in
+          subst (λ (y : Visit). IsFree new k y.kind) (sym (get_or_append_left es (e ∷ []) d k within)) (record {
+            short = old.short;
+            free = λ x low high is. elim (looks_push es e x is) [
+              | inl before ↦ old.free x low high before
+              | inr one ↦ (let end = one.0 in
+                  (looks one.1).1 k d within (omega (arith, end, high)) ∙ ap (λ (n : ℕ). Some n) (sym end))
+            ];
+          })
+    ]
+
+-- the entries of a table after they were lent
+pub put_back : (new rest : List Visit) (n : ℕ) → length new ≡ n → take n (new ++ rest) ≡ new
+put_back new rest n count = ap (λ (k : ℕ). take k (new ++ rest)) (sym count) ∙ take-append_seam new rest
+
+-- 8. The sums of stretches, entry by entry
+
+abbrev pub times_in : (b d : ℕ) → List Visit → List ℕ
+times_in b d es = map (λ (v : WordVisits). v.times) (visits_in b d es)
+
+drop_step : (es : List Visit) (k : ℕ) (d : Visit) → k < length es → drop k es ≡ slice_index_or es k d ∷ drop (k + 1) es
+drop_step [] k d below = absurd (omega (arith, below))
+drop_step (e ∷ es) zero d below = refl
+drop_step (e ∷ es) (suc k) d below =
+    let next : suc k + 1 ≡ suc (k + 1) = omega arith in
+    drop_step es k d (omega (arith, below)) ∙ ap (λ (i : ℕ). slice_index_or es k d ∷ drop i (e ∷ es)) (sym next)
+
+-- so many entries are summed, and the others are left
+pub record AreSummed (behind number b d : ℕ) (es : List Visit) (ts : List ℕ) : Type 0 where
+  pub times : ts ++ times_in b d (drop number es) ≡ times_in 0 0 es
+  pub ordered : AreOrdered b d behind (drop number es)
+  pub begun : b + begun_in (drop number es) ≡ begun_in es
+
+pub none_summed : (behind : ℕ) (es : List Visit) → AreOrdered 0 0 behind es → AreSummed behind 0 0 0 es []
+none_summed behind es ordered = record { times = refl; ordered = ordered; begun = omega arith }
+
+-- the next one
+pub next_fits : (behind number b d : ℕ) (es : List Visit) (ts : List ℕ) (x : Visit) → number < length es
+    → AreSummed behind number b d es ts
+    → (b + (slice_index_or es number x).begun ≤ begun_in es)
+    × (d + (slice_index_or es number x).ended ≤ b + (slice_index_or es number x).begun)
+next_fits behind number b d es ts x below are =
+    let step = drop_step es number x below in
+    let sum = ap begun_in step in
+    let ordered = subst (AreOrdered b d behind) step are.ordered in
+    let begun = are.begun in
+    (omega (arith, sum, begun), ordered.0)
+
+pub next_summed : (behind number b d b' d' : ℕ) (es : List Visit) (ts us : List ℕ) (x : Visit) → number < length es
+    → b' ≡ b + (slice_index_or es number x).begun → d' ≡ d + (slice_index_or es number x).ended
+    → us ≡ ts ++ (b' - d') ∷ [] → AreSummed behind number b d es ts → AreSummed behind (number + 1) b' d' es us
+next_summed behind number b d b' d' es ts us x below begun ended is are =
+    let e = slice_index_or es number x in
+    let rest = drop (number + 1) es in
+    let step = drop_step es number x below in
+    let ordered = subst (AreOrdered b d behind) step are.ordered in
+    let sum = ap begun_in step in
+    let before = are.begun in
+    record {
+      times = ap (λ (xs : List ℕ). xs ++ times_in b' d' rest) is
+          ∙ (λ t. (ts ++ (begun t - ended t) ∷ []) ++ times_in (begun t) (ended t) rest)
+          ∙ append_assoc ts ((b + e.begun - (d + e.ended)) ∷ []) (times_in (b + e.begun) (d + e.ended) rest)
+          ∙ sym (ap (λ (ys : List Visit). ts ++ times_in b d ys) step) ∙ are.times;
+      ordered = subst (λ (y : ℕ). AreOrdered b' y behind rest) (sym ended)
+          (subst (λ (y : ℕ). AreOrdered y (d + e.ended) behind rest) (sym begun) ordered.1);
+      begun = omega (arith, sum, before, begun);
+    }
+
+pub all_summed : (behind number b d : ℕ) (es : List Visit) (ts : List ℕ) → length es ≤ number
+    → AreSummed behind number b d es ts → ts ≡ times_in 0 0 es
+all_summed behind number b d es ts past are =
+    let none : drop number es ≡ [] = drop_all number es past in
+    sym (append-nil ts) ∙ sym (ap (λ (ys : List Visit). ts ++ times_in b d ys) none) ∙ are.times

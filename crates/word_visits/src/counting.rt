@@ -1,0 +1,153 @@
+//! Words in a row, by strides, and how many of them count.
+
+ghost use Rattle.std.specs.Prelude.{◌≡◌, ◌+◌, ◌≤◌, length};
+ghost use Rattle.node_words.specs.jump_map.Image.{most_words};
+ghost use Rattle.node_words.specs.node_memory.Shelf.{ground_of};
+ghost use Rattle.node_words.specs.GoingOn.{BodyGoesOn};
+ghost use Rattle.node_words.specs.UndoLogs.{StaysUndoable, TakesBack};
+ghost use Rattle.word_visits.specs.Entries.{AreEntriesIn, AreFree, visits_in};
+ghost use Rattle.word_visits.specs.TallyBodies.{BodyHasSteps};
+ghost use Rattle.word_visits.specs.TallyTables.{AreTalliesIn, tallies_of};
+ghost use Rattle.word_visits.specs.Sums.{RiseByOne, tallies_in};
+
+use crate::tallies::{Tallies, steps_between};
+use crate::visit::Visit;
+use crate::visiting::pass;
+use node_words::jump_map::Image;
+use node_words::{ExecState, Going, UndoLog};
+
+/// What a run of words gives.
+#[derive(Clone, Copy, Debug, PartialEq, Eq)]
+pub struct Counted {
+    /// The index of the next word.
+    pub at: u32,
+    /// How many words were executed.
+    pub words: u64,
+    /// How many of them count.
+    pub steps: u64,
+}
+
+/// Executes words from an index on, as long as they are silent and tallied, and at most so many. A
+/// word isn't tallied that looks and reads the flag word; nor is any where the image has more words
+/// than the table.
+pub fn run_counting(
+    body: &mut ExecState<'_>,
+    image: &Image,
+    from: u32,
+    most: u64,
+    tallies: &Tallies,
+) -> Counted
+    requires few { length image.now ≤ most_words }
+    requires table { AreTalliesIn image.now tallies.now }
+    ensures words { BodyGoesOn image.now most from body.old result.words result.at body.new }
+    ensures steps { BodyHasSteps image.now most from body.old result.words (tallies_of tallies.now)
+        result.steps }
+    ensures most { result.words ≤ most }
+    ensures part { result.steps ≤ result.words }
+    ensures ground { ground_of body.new.local ≡ ground_of body.old.local }
+    ensures counts { body.new.counts ≡ body.old.counts }
+    ensures undoable { StaysUndoable body.old body.new }
+{
+    if tallies.words.len() < image.len() {
+        return Counted {
+            at: from,
+            words: 0,
+            steps: 0,
+        };
+    }
+    let most = most.min(u32::MAX as u64) as u32;
+    step_words(
+        body,
+        image,
+        from,
+        most,
+        &tallies.words.entries,
+        &tallies.sums,
+    )
+}
+
+/// Executes words from an index on, as long as they are silent and tallied, and at most so many.
+#[inline(never)]
+fn step_words(
+    body: &mut ExecState<'_>,
+    image: &Image,
+    from: u32,
+    most: u32,
+    entries: &[Visit],
+    sums: &[usize],
+) -> Counted
+    requires few { length image.now ≤ most_words }
+    requires enough { length image.now ≤ length entries.now }
+    requires entries { AreEntriesIn image.now entries.now }
+    requires free { AreFree entries.now }
+    requires count { length sums.now ≡ length entries.now + 1 }
+    requires rise { RiseByOne sums.now }
+    ensures words { BodyGoesOn image.now most from body.old result.words result.at body.new }
+    ensures steps { BodyHasSteps image.now most from body.old result.words
+        (tallies_in (visits_in 0 0 entries.now) sums.now) result.steps }
+    ensures most { result.words ≤ most }
+    ensures part { result.steps ≤ result.words }
+    ensures ground { ground_of body.new.local ≡ ground_of body.old.local }
+    ensures counts { body.new.counts ≡ body.old.counts }
+    ensures undoable { StaysUndoable body.old body.new }
+{
+    let (micros, strides) = image.tables();
+    let mut going = Going {
+        at: from as usize,
+        left: most,
+    };
+    let mut first = going.at;
+    let mut steps = 0;
+    while going.at < strides.len() {
+        let here = going;
+        let kind = strides[here.at];
+        match pass(body, image, micros, kind, &entries[here.at], &mut going) {
+            Some(last) => {
+                let end = here.at + ((here.left - going.left) as usize - last);
+                if going.at != end + last {
+                    steps += steps_between(sums, first, end);
+                    first = going.at - last;
+                }
+            }
+            None => {
+                return Counted {
+                    at: here.at as u32,
+                    words: (most - here.left) as u64,
+                    steps: steps + steps_between(sums, first, here.at),
+                };
+            }
+        }
+    }
+    Counted {
+        at: going.at as u32,
+        words: (most - going.left) as u64,
+        steps: steps + steps_between(sums, first, going.at),
+    }
+}
+
+/// Executes words as [`run_counting`] does, as long as the undo log has room for what they
+/// overwrite. The undo log takes them back.
+pub fn run_counting_noting(
+    body: &mut ExecState<'_>,
+    image: &Image,
+    from: u32,
+    most: u64,
+    tallies: &Tallies,
+    undo_log: &mut UndoLog,
+) -> Counted
+    requires few { length image.now ≤ most_words }
+    requires table { AreTalliesIn image.now tallies.now }
+    ensures words { BodyGoesOn image.now most from body.old result.words result.at body.new }
+    ensures steps { BodyHasSteps image.now most from body.old result.words (tallies_of tallies.now)
+        result.steps }
+    ensures most { result.words ≤ most }
+    ensures part { result.steps ≤ result.words }
+    ensures back { TakesBack undo_log.new.saved undo_log.new.notes.items body.new.lane
+        body.new.local body.old.lane body.old.local }
+    ensures counts { body.new.counts ≡ body.old.counts }
+{
+    body.start_noting(undo_log);
+    let counted = run_counting(body, image, from, most, tallies);
+    body.stop_noting(undo_log);
+    counted
+}
