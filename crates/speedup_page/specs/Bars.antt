@@ -1,5 +1,5 @@
 -- Where time goes: for each number of nodes a bar of 600 pixels, which its parts share.
-use Rattle.std.specs.Prelude.{ℕ, ◌+◌, ◌-◌, ◌*◌, List, [], ◌∷◌, ◌++◌, length, codes}
+use Rattle.std.specs.Prelude.{ℕ, ◌+◌, ◌-◌, ◌*◌, min, List, [], ◌∷◌, ◌++◌, length, codes}
 use Rattle.speedup_page.specs.declared.row.Row.{Row}
 use Rattle.speedup_page.specs.declared.row.Shares.{Shares}
 use Rattle.speedup_page.specs.Frame.{bars, legend}
@@ -11,6 +11,14 @@ piece_text kind y from to =
     codes "<rect class='" ++ (kind ++ (numbered (codes "' x='") (88 + from)
     ++ (numbered (codes "' width='") (to - from) ++ (numbered (codes "' y='") y
     ++ codes "' height='18'/>\n"))))
+
+-- Words: as many as there are steps are of the original, since each step is committed by one; those
+-- behind them are what checks add.
+abbrev pub words_text : (y whole words steps : ℕ) → List ℕ
+words_text y whole words steps =
+    piece_text (codes "steps") y 0 (share_of 600 whole (min words steps))
+    ++ piece_text (codes "checks") y (share_of 600 whole (min words steps))
+    (share_of 600 whole words)
 
 -- the parts stand side by side; each ends where what is spent on it and on those before ends
 abbrev pub waits_text : (y whole before : ℕ) → Shares → List ℕ
@@ -26,9 +34,9 @@ rest_text y whole before s =
     (share_of 600 whole (before + s.handling))
     ++ piece_text (codes "idles") y (share_of 600 whole (before + s.handling)) 600
 
-abbrev pub pieces_text : (y whole : ℕ) → Shares → List ℕ
-pieces_text y whole s =
-    piece_text (codes "words") y 0 (share_of 600 whole s.words)
+abbrev pub pieces_text : (y whole steps : ℕ) → Shares → List ℕ
+pieces_text y whole steps s =
+    words_text y whole s.words steps
     ++ (waits_text y whole s.words s
     ++ rest_text y whole (s.words + s.to_read + s.to_write) s)
 
@@ -36,7 +44,7 @@ pieces_text y whole s =
 abbrev pub bar_text : (y : ℕ) → Row → List ℕ
 bar_text y r =
     numbered (codes "<text class='scale' x='80' y='") (y + 9) ++ (numbered (codes "'>") r.nodes
-    ++ (codes "</text>\n" ++ pieces_text y (whole_of r.spent) r.spent))
+    ++ (codes "</text>\n" ++ pieces_text y (whole_of r.spent) r.steps r.spent))
 
 -- one below the other, from so far down on
 abbrev pub bars_from : (y : ℕ) → List Row → List ℕ

@@ -19,8 +19,8 @@ style =
     ++ (codes ".grid{stroke:#ccc;fill:none}.ideal{stroke:#555;stroke-dasharray:6 4;fill:none}\n"
     ++ (codes ".line{stroke:#12507a;stroke-width:2.2;fill:none}.mark{fill:#12507a}\n"
     ++ (codes ".value{font-weight:600;stroke:#fff;stroke-width:3;paint-order:stroke}\n"
-    ++ (codes "rect{stroke:#111;stroke-width:.8}.words{fill:#234}.reads{fill:url(#reads)}\n"
-    ++ (codes ".writes{fill:url(#writes)}.handles{fill:#bbb}.idles{fill:#fff}\n"
+    ++ (codes "rect{stroke:#111;stroke-width:.8}.steps{fill:#123}.checks{fill:#78909c}\n"
+    ++ (codes ".reads{fill:url(#reads)}.writes{fill:url(#writes)}.handles{fill:#bbb}.idles{fill:#fff}\n"
     ++ (codes "table{border-collapse:collapse;font-size:13px}caption{text-align:left;font-weight:600}\n"
     ++ (codes "th,td{border-bottom:1px solid #ccc;padding:2px 0 2px 12px;text-align:right;\n"
     ++ (codes "vertical-align:top}small{display:block;color:#444}\n"
@@ -48,18 +48,21 @@ bars =
 -- what the parts of the bars mean
 unfoldable pub legend : List ℕ
 legend =
-    codes "<dl>\n<dt><svg><rect class='words' width='28' height='18'/></svg></dt><dd>words</dd>\n"
+    codes "<dl>\n<dt><svg><rect class='steps' width='28' height='18'/></svg></dt>"
+    ++ (codes "<dd>words of the original</dd>\n"
+    ++ (codes "<dt><svg><rect class='checks' width='28' height='18'/></svg></dt>"
+    ++ (codes "<dd>words that checks add</dd>\n"
     ++ (codes "<dt><svg><rect class='reads' width='28' height='18'/></svg></dt><dd>waits to read</dd>\n"
     ++ (codes "<dt><svg><rect class='writes' width='28' height='18'/></svg></dt><dd>waits to write</dd>\n"
     ++ (codes "<dt><svg><rect class='handles' width='28' height='18'/></svg></dt><dd>handling</dd>\n"
-    ++ codes "<dt><svg><rect class='idles' width='28' height='18'/></svg></dt><dd>idle</dd>\n</dl>\n")))
+    ++ codes "<dt><svg><rect class='idles' width='28' height='18'/></svg></dt><dd>idle</dd>\n</dl>\n"))))))
 
 -- the head of the table
 unfoldable pub table : List ℕ
 table =
     codes "<h2>The numbers</h2>\n<table>\n<thead><tr><th>Nodes</th><th>Time</th><th>Speed-up</th>"
-    ++ (codes "<th>Words</th><th>Waits to read</th><th>Waits to write</th><th>Handling</th><th>Idle</th>"
-    ++ codes "</tr></thead>\n<tbody>\n")
+    ++ (codes "<th>Words</th><th>Of the original</th><th>Waits to read</th><th>Waits to write</th>"
+    ++ codes "<th>Handling</th><th>Idle</th></tr></thead>\n<tbody>\n")
 
 -- how the page is read
 unfoldable pub notes : List ℕ
@@ -68,8 +71,10 @@ notes =
     ++ (codes "many steps of the original, as one processor makes them on one memory, there are for each\n"
     ++ (codes "unit of the time of a run, rounded down. On the dashed line so many nodes are so many times\n"
     ++ (codes "as fast. What all nodes of a run spend is their number times the time of the run; its shares\n"
-    ++ (codes "are rounded down. Where a row says stopped, the budget stopped a processor. All times are\n"
-    ++ codes "those of a model: each word takes 1, and no way between two nodes is ever full.</p>\n"))))
+    ++ (codes "are rounded down. Each step of the original is committed by one word; checks add the\n"
+    ++ (codes "others. The share of the words of the original is of all words. Where a row says stopped,\n"
+    ++ (codes "the budget stopped a processor. All times are those of a model: each word takes 1, and no\n"
+    ++ codes "way between two nodes is ever full.</p>\n"))))))
 
 -- where the page ends
 unfoldable pub end : List ℕ

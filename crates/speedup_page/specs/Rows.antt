@@ -10,7 +10,7 @@ whole_of s = s.words + s.to_read + s.to_write + s.handling + s.idle
 
 -- it isn't so much that a drawing has no room for it
 abbrev pub IsFit : Row → Type 0
-IsFit r = whole_of r.spent ≤ 2 ^ 110
+IsFit r = whole_of r.spent + r.steps ≤ 2 ^ 110
 
 -- THE SPEED-UP over the original on one processor, in hundredths: its steps for each unit of the
 -- run's time, rounded down. There is one where both ended by themselves.

@@ -19,16 +19,17 @@ cell_text whole part =
     numbered (codes "<td>") part ++ (numbered (codes "<small>") (share_of 100 whole part)
     ++ codes "%</small></td>")
 
-abbrev pub cells_text : (whole : ℕ) → Shares → List ℕ
-cells_text whole s =
-    cell_text whole s.words ++ (cell_text whole s.to_read ++ (cell_text whole s.to_write
-    ++ (cell_text whole s.handling ++ cell_text whole s.idle)))
+-- those for words, and for the words of the original, as hundredths of all words; and for the rest
+abbrev pub cells_text : (whole steps : ℕ) → Shares → List ℕ
+cells_text whole steps s =
+    cell_text whole s.words ++ (cell_text s.words steps ++ (cell_text whole s.to_read
+    ++ (cell_text whole s.to_write ++ (cell_text whole s.handling ++ cell_text whole s.idle))))
 
 abbrev pub line_text : (base : Option ℕ) → Row → List ℕ
 line_text base r =
     numbered (codes "<tr><th>") r.nodes ++ (numbered (codes "</th><td>") r.time
     ++ (codes "</td><td>" ++ (speedup_text base r ++ (codes "</td>"
-    ++ (cells_text (whole_of r.spent) r.spent ++ codes "</tr>\n")))))
+    ++ (cells_text (whole_of r.spent) r.steps r.spent ++ codes "</tr>\n")))))
 
 abbrev pub lines_text : (base : Option ℕ) → List Row → List ℕ
 lines_text base [] = []

@@ -32,6 +32,24 @@ fn push_piece(
     out.extend_from_slice(b"' height='18'/>\n")
 }
 
+/// Appends the parts of words: those of the original, and behind them those that checks add.
+fn push_words(
+    out: &mut Vec<u8>,
+    y: u128,
+    whole: u128,
+    words: u128,
+    steps: u128,
+) -> Result<(), AllocError>
+    requires { words ≤ 2 ^ 110 }
+    ensures { OnOk result
+        (out.new.items ≡ out.old.items ++ model.words_text y whole words steps) }
+{
+    let middle = share_of(WIDTH, whole, words.min(steps));
+    let end = share_of(WIDTH, whole, words);
+    push_piece(out, b"steps", y, 0, middle)?;
+    push_piece(out, b"checks", y, middle, end)
+}
+
 /// Appends the parts of waits, behind what was spent before.
 fn push_waits(
     out: &mut Vec<u8>,
@@ -70,12 +88,18 @@ fn push_rest(
 }
 
 /// Appends the parts of a bar.
-fn push_pieces(out: &mut Vec<u8>, y: u128, whole: u128, spent: &Shares) -> Result<(), AllocError>
+fn push_pieces(
+    out: &mut Vec<u8>,
+    y: u128,
+    whole: u128,
+    steps: u128,
+    spent: &Shares,
+) -> Result<(), AllocError>
     requires { whole_of spent.now ≤ 2 ^ 110 }
     ensures { OnOk result
-        (out.new.items ≡ out.old.items ++ model.pieces_text y whole spent.now) }
+        (out.new.items ≡ out.old.items ++ model.pieces_text y whole steps spent.now) }
 {
-    push_piece(out, b"words", y, 0, share_of(WIDTH, whole, spent.words))?;
+    push_words(out, y, whole, spent.words, steps)?;
     push_waits(out, y, whole, spent.words, spent)?;
     let before = spent.words + spent.to_read + spent.to_write;
     push_rest(out, y, whole, before, spent)
@@ -90,7 +114,7 @@ fn push_bar(out: &mut Vec<u8>, y: u128, row: &Row) -> Result<(), AllocError>
     push_numbered(out, b"<text class='scale' x='80' y='", y + 9)?;
     push_numbered(out, b"'>", u128::from(row.nodes))?;
     out.extend_from_slice(b"</text>\n")?;
-    push_pieces(out, y, row.spent.whole(), &row.spent)
+    push_pieces(out, y, row.spent.whole(), row.steps, &row.spent)
 }
 
 /// Appends the bars of rows, one below the other.

@@ -64,8 +64,8 @@ const STYLE: &str = concat!(
     ".grid{stroke:#ccc;fill:none}.ideal{stroke:#555;stroke-dasharray:6 4;fill:none}\n",
     ".line{stroke:#12507a;stroke-width:2.2;fill:none}.mark{fill:#12507a}\n",
     ".value{font-weight:600;stroke:#fff;stroke-width:3;paint-order:stroke}\n",
-    "rect{stroke:#111;stroke-width:.8}.words{fill:#234}.reads{fill:url(#reads)}\n",
-    ".writes{fill:url(#writes)}.handles{fill:#bbb}.idles{fill:#fff}\n",
+    "rect{stroke:#111;stroke-width:.8}.steps{fill:#123}.checks{fill:#78909c}\n",
+    ".reads{fill:url(#reads)}.writes{fill:url(#writes)}.handles{fill:#bbb}.idles{fill:#fff}\n",
     "table{border-collapse:collapse;font-size:13px}caption{text-align:left;font-weight:600}\n",
     "th,td{border-bottom:1px solid #ccc;padding:2px 0 2px 12px;text-align:right;\n",
     "vertical-align:top}small{display:block;color:#444}\n",
@@ -93,7 +93,10 @@ const BARS: &str = concat!(
 
 /// What the parts of the bars mean.
 const LEGEND: &str = concat!(
-    "<dl>\n<dt><svg><rect class='words' width='28' height='18'/></svg></dt><dd>words</dd>\n",
+    "<dl>\n<dt><svg><rect class='steps' width='28' height='18'/></svg></dt>",
+    "<dd>words of the original</dd>\n",
+    "<dt><svg><rect class='checks' width='28' height='18'/></svg></dt>",
+    "<dd>words that checks add</dd>\n",
     "<dt><svg><rect class='reads' width='28' height='18'/></svg></dt><dd>waits to read</dd>\n",
     "<dt><svg><rect class='writes' width='28' height='18'/></svg></dt><dd>waits to write</dd>\n",
     "<dt><svg><rect class='handles' width='28' height='18'/></svg></dt><dd>handling</dd>\n",
@@ -103,8 +106,8 @@ const LEGEND: &str = concat!(
 /// The head of the table.
 const TABLE: &str = concat!(
     "<h2>The numbers</h2>\n<table>\n<thead><tr><th>Nodes</th><th>Time</th><th>Speed-up</th>",
-    "<th>Words</th><th>Waits to read</th><th>Waits to write</th><th>Handling</th><th>Idle</th>",
-    "</tr></thead>\n<tbody>\n",
+    "<th>Words</th><th>Of the original</th><th>Waits to read</th><th>Waits to write</th>",
+    "<th>Handling</th><th>Idle</th></tr></thead>\n<tbody>\n",
 );
 
 /// How the page is read.
@@ -113,8 +116,10 @@ const NOTES: &str = concat!(
     "many steps of the original, as one processor makes them on one memory, there are for each\n",
     "unit of the time of a run, rounded down. On the dashed line so many nodes are so many times\n",
     "as fast. What all nodes of a run spend is their number times the time of the run; its shares\n",
-    "are rounded down. Where a row says stopped, the budget stopped a processor. All times are\n",
-    "those of a model: each word takes 1, and no way between two nodes is ever full.</p>\n",
+    "are rounded down. Each step of the original is committed by one word; checks add the\n",
+    "others. The share of the words of the original is of all words. Where a row says stopped,\n",
+    "the budget stopped a processor. All times are those of a model: each word takes 1, and no\n",
+    "way between two nodes is ever full.</p>\n",
 );
 
 /// Where the page ends.

@@ -12,6 +12,8 @@ pub struct Row {
     pub stopped: bool,
     /// The time at which the last node is over. The unit is what a node takes for one word.
     pub time: u128,
+    /// How many steps of the original all processors make.
+    pub steps: u128,
     pub spent: Shares,
 }
 

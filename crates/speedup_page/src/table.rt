@@ -1,6 +1,6 @@
 //! The numbers as a table.
 
-ghost use Rattle.std.specs.Prelude.{◌≡◌, ◌≤◌, ◌^◌, ◌++◌, All, OnOk};
+ghost use Rattle.std.specs.Prelude.{◌≡◌, ◌+◌, ◌≤◌, ◌^◌, ◌++◌, All, OnOk};
 ghost use Rattle.speedup_page.specs.Table as model;
 ghost use Rattle.speedup_page.specs.Rows.{IsFit, whole_of};
 
@@ -40,12 +40,14 @@ fn push_cell(out: &mut Vec<u8>, whole: u128, part: u128) -> Result<(), AllocErro
     out.extend_from_slice(b"%</small></td>")
 }
 
-/// Appends what was spent on each thing.
-fn push_cells(out: &mut Vec<u8>, whole: u128, spent: &Shares) -> Result<(), AllocError>
-    requires { whole_of spent.now ≤ 2 ^ 110 }
-    ensures { OnOk result (out.new.items ≡ out.old.items ++ model.cells_text whole spent.now) }
+/// Appends what was spent on each thing, and how many of the words are of the original.
+fn push_cells(out: &mut Vec<u8>, whole: u128, steps: u128, spent: &Shares) -> Result<(), AllocError>
+    requires { whole_of spent.now + steps ≤ 2 ^ 110 }
+    ensures { OnOk result
+        (out.new.items ≡ out.old.items ++ model.cells_text whole steps spent.now) }
 {
     push_cell(out, whole, spent.words)?;
+    push_cell(out, spent.words, steps)?;
     push_cell(out, whole, spent.to_read)?;
     push_cell(out, whole, spent.to_write)?;
     push_cell(out, whole, spent.handling)?;
@@ -62,7 +64,7 @@ fn push_line(out: &mut Vec<u8>, base: Option<u64>, row: &Row) -> Result<(), Allo
     out.extend_from_slice(b"</td><td>")?;
     push_speedup(out, base, row)?;
     out.extend_from_slice(b"</td>")?;
-    push_cells(out, row.spent.whole(), &row.spent)?;
+    push_cells(out, row.spent.whole(), row.steps, &row.spent)?;
     out.extend_from_slice(b"</tr>\n")
 }
 

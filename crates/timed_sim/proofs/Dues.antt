@@ -2,6 +2,7 @@
 use Rattle.std.proofs.Common.{◌≡◌, ◌⊎◌, ℕ, zero, suc, ◌<◌, Bool, true, false, cond, Option, Some, None, refl, ap, ◌∙◌, inl, inr, arith}
 use Rattle.std.specs.Prelude.{nat_lt}
 use Rattle.timed_sim.specs.Clock.{Due, earlier, earliest}
+use Rattle.timed_sim.proofs.Numbered.{below_or_last}
 
 one_of : (b : Bool) (x y d : Due) → cond b (Some y) (Some x) ≡ Some d
     → (Some x ≡ Some d) ⊎ (Some y ≡ Some d)
@@ -40,15 +41,6 @@ earliest_none due (suc k) i e low =
     elim (below_or_last i k low) [
       | inl h ↦ earliest_none due k i both.0 h
       | inr h ↦ ap due h ∙ both.1
-    ]
-  where
-    below_or_last : (i k : ℕ) → i < suc k → (i < k) ⊎ (i ≡ k)
-    below_or_last zero zero low = inr refl
-    below_or_last zero (suc k) low = inl (omega arith)
-    below_or_last (suc i) zero low = absurd (omega (arith, low))
-    below_or_last (suc i) (suc k) low = elim (below_or_last i k (omega (arith, low))) [
-      | inl h ↦ inl (omega (arith, h))
-      | inr h ↦ inr (ap suc h)
     ]
 
 pub earliest_same : (f g : ℕ → Option Due) (n : ℕ) → ((i : ℕ) → i < n → f i ≡ g i)

@@ -1,3 +1,5 @@
+pub mod Numbered
+pub mod Counts
 pub mod Dues
 pub mod Next
 pub mod Arrivals

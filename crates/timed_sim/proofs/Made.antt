@@ -1,5 +1,6 @@
 -- What a run keeps behind an event, and at the start.
-use Rattle.std.proofs.Common.{◌≡◌, ℕ, ◌+◌, ◌*◌, ◌≤◌, ◌^◌, List, length, map, refl, sym, ap, ◌∙◌, subst, arith}
+use Rattle.std.proofs.Common.{◌≡◌, ℕ, ◌+◌, ◌*◌, ◌≤◌, ◌^◌, List, [], ◌∷◌, length, map, refl, sym, ap, ◌∙◌, subst, arith}
+use Rattle.templates.specs.declared.plans.PlanEntry.{PlanEntry}
 use Rattle.block_layout.specs.Layout.{Shape}
 use Rattle.dsm_core.specs.dsm_messages.declared.headers.Sent.{Sent}
 use Rattle.dsm_core.specs.dsm_messages.Headers.{sent_by}
@@ -10,11 +11,14 @@ use Rattle.dsm_core.specs.node_model.Core.{Core, Event, Exec, Take, May, AreAlik
 use Rattle.dsm_core.specs.run_order.OwnRun.{node_of}
 use Rattle.dsm_core.specs.CoreParts.{work_of, core_of}
 use Rattle.dsm_core.specs.Seen.{sends_at, wants_at}
+use Rattle.run_trace.specs.Steps.{steps_made}
 use Rattle.timed_sim.specs.declared.costs.Costs.{Costs}
 use Rattle.timed_sim.specs.declared.costs.Spent.{Spent}
+use Rattle.timed_sim.specs.declared.counting.StepCount.{StepCount}
 use Rattle.timed_sim.specs.declared.run.TimedRun.{TimedRun}
 use Rattle.timed_sim.specs.Clock.{AreInRange, Due, Times, clock_of, next, opening_times, times_after, times_by}
-use Rattle.timed_sim.specs.Stored.{AreInStep, AreSameTimes, AreWithin, HasMade, AreClocks, IsBelow, IsKept, IsReady, times_in, times_of}
+use Rattle.timed_sim.specs.Counted.{CountsFor}
+use Rattle.timed_sim.specs.Stored.{AreInStep, AreSameTimes, AreWithin, HasMade, HaveBeenMade, AreClocks, IsBelow, IsKept, IsReady, plan_in, times_in, times_of}
 use Rattle.timed_sim.specs.Stretches.{HaveFewLines}
 use Rattle.timed_sim.proofs.Next.{IsNextAt}
 use Rattle.timed_sim.proofs.Arrivals.{AreBy, by_more}
@@ -73,14 +77,29 @@ made_in_step costs work times new_times c new d may in_step made j i bj bi =
     ∙ step_in_step costs work times c d may in_step j i bj bi
     ∙ ap length (sym (made.core_is.lists j i bj bi))
 
+-- the steps of the same code are counted
+pub counted_for : (v w : Work) (plan : List PlanEntry) (s : StepCount) → w ≡ v → CountsFor v plan s
+    → CountsFor w s.plan.now s
+counted_for v w plan s same counts =
+    subst (λ (x : Work). CountsFor x s.plan.now s) (sym same)
+    (subst (λ (ps : List PlanEntry). CountsFor v ps s) (sym counts.plan_is) counts)
+
+pub counts_here : (old new : TimedRun) → work_of new.core ≡ work_of old.core
+    → plan_in new ≡ plan_in old → CountsFor (work_of old.core) (plan_in old) new.count
+    → CountsFor (work_of new.core) (plan_in new) new.count
+counts_here old new same plan counts =
+    subst (λ (w : Work). CountsFor w (plan_in new) new.count) (sym same)
+    (subst (λ (ps : List PlanEntry). CountsFor (work_of old.core) ps new.count) (sym plan) counts)
+
 pub ready_made : (costs : Costs) (old new : TimedRun) (d : Due)
     → work_of new.core ≡ work_of old.core → new.costs ≡ old.costs → new.undo_logs ≡ old.undo_logs
+    → plan_in new ≡ plan_in old → CountsFor (work_of old.core) (plan_in old) new.count
     → May (work_of old.core) (core_of old.core) d.event → IsReady old
     → AreClocks old.core.layout.nodes new.clocks
     → HasMade costs (work_of old.core) (times_in old) (core_of old.core) d (times_in new)
     (core_of new.core)
     → IsReady new
-ready_made costs old new d same costs_same logs may ready clocks made = record {
+ready_made costs old new d same costs_same logs plan counts may ready clocks made = record {
   clocks = subst (λ (w : Work). AreClocks w.layout.nodes new.clocks) (sym same) clocks;
   costs = subst AreInRange (sym costs_same) ready.costs;
   undo_logs = logs ∙ ready.undo_logs ∙ ap (λ (w : Work). w.layout.nodes) (sym same);
@@ -88,6 +107,7 @@ ready_made costs old new d same costs_same logs may ready clocks made = record {
       (sym same)
       (made_in_step costs (work_of old.core) (times_in old) (times_in new) (core_of old.core)
       (core_of new.core) d may ready.in_step made);
+  counts = counts_here old new same plan counts;
 }
 
 -- nothing has changed
@@ -96,6 +116,11 @@ times_kept old new kept =
     let work = kept.work in
     let clocks = kept.clocks in
     λ t. times_of (work t).layout.nodes (clocks t)
+
+pub plan_kept : (old new : TimedRun) → IsKept old new → plan_in new ≡ plan_in old
+plan_kept old new kept =
+    let count = kept.count in
+    λ t. (count t).plan.now
 
 pub ready_kept : (old new : TimedRun) → IsKept old new → IsReady old → IsReady new
 ready_kept old new kept ready =
@@ -109,6 +134,8 @@ ready_kept old new kept ready =
           (sym kept.work)
           (subst (λ (t : Times). AreInStep n t (core_of new.core)) (sym (times_kept old new kept))
           (subst (AreInStep n (times_in old)) (sym kept.core) ready.in_step));
+      counts = counts_here old new kept.work (plan_kept old new kept)
+          (subst (CountsFor (work_of old.core) (plan_in old)) (sym kept.count) ready.counts);
     }
 
 pub within_kept : (old new : TimedRun) (most : ℕ) → IsKept old new
@@ -137,6 +164,14 @@ made_kept old new d times c kept made =
     (subst (λ (t : Times). HasMade new.costs (work_of old.core) t (core_of new.core) d times c)
     (times_kept old new kept)
     (subst (λ (w : Work). HasMade new.costs w (times_in new) (core_of new.core) d times c) kept.work made)))
+
+pub steps_kept : (old mid new : TimedRun) (e : Event) → IsKept old mid → HaveBeenMade mid new e
+    → HaveBeenMade old new e
+steps_kept old mid new e kept made =
+    let work = kept.work in
+    let core = kept.core in
+    let count = kept.count in
+    made ∙ (λ t. (count t).steps + steps_made (work t) (count t).plan.now (core t) (e ∷ []))
 
 -- 2. No time is far
 

@@ -1,23 +1,30 @@
 -- A run by a clock on its way, and its end.
-use Rattle.std.proofs.Common.{◌≡◌, ◌⊎◌, ℕ, zero, suc, ◌+◌, ◌*◌, ◌^◌, ◌<◌, ◌≤◌, List, [], ◌∷◌, ◌++◌, map, length, get_or, Some, Result, Ok, Err, refl, sym, ap, ◌∙◌, subst, inl, inr, arith, length-append}
+use Rattle.std.proofs.Common.{◌≡◌, ℕ, zero, suc, ◌+◌, ◌*◌, ◌^◌, ◌<◌, ◌≤◌, List, [], ◌∷◌, ◌++◌, map, length, get_or, Result, Ok, Err, refl, sym, ap, ◌∙◌, subst, inl, inr, arith, length-append}
 use Rattle.std.specs.Prelude.{All, max, IfOk, OnOk}
 use Rattle.std.specs.List.{range_with_len}
 use Rattle.std.proofs.Math.Nat.{mul-le-mul, le-max_right}
 use Rattle.std.proofs.lemmas.List.{get_or_default}
+use Rattle.templates.specs.declared.plans.PlanEntry.{PlanEntry}
 use Rattle.dsm_core.specs.node_model.Node.{Work, standing_of}
 use Rattle.dsm_core.specs.node_model.Core.{Core, Event, Exec, Take, May, AreAlike, IsOver, IsCoreRun, opening_core, event_step, after}
 use Rattle.dsm_core.specs.node_model.Outcome.{Outcome, IsOutcomeOf}
 use Rattle.dsm_core.specs.run_order.OwnRun.{Stamped, StandsForOwnRun, node_of, run_of}
 use Rattle.dsm_core.specs.rewriting_law.Bounds.{RunsRewritten, most_events}
-use Rattle.dsm_core.proofs.CoreRuns.{alike_also, alike_back, alike_same, may_alike, run_alike, run_append, after_append, after_alike}
+use Rattle.dsm_core.specs.CoreParts.{work_of}
+use Rattle.dsm_core.proofs.CoreRuns.{alike_also, alike_back, alike_same, run_alike, run_append, after_append, after_alike}
 use Rattle.dsm_core.proofs.Promised.{stands_alike}
+use Rattle.run_trace.specs.Steps.{steps_made}
 use Rattle.timed_sim.specs.declared.clocks.Clocks.{Clocks}
 use Rattle.timed_sim.specs.declared.costs.Costs.{Costs}
 use Rattle.timed_sim.specs.declared.costs.Spent.{Spent}
 use Rattle.timed_sim.specs.Clock.{Due, Times, AreNext, IsOutcomeByClock, clock_of, events_in, idle_until, last_clock, next, nothing_spent, opening_times, times_after, times_after_all}
-use Rattle.timed_sim.specs.Stored.{AreClocks, AreSameTimes, AreWithin, HasEnded, HasMade, times_of}
+use Rattle.timed_sim.specs.declared.run.TimedRun.{TimedRun}
+use Rattle.timed_sim.specs.Stored.{AreClocks, AreSameTimes, AreWithin, HasEnded, IsKept, Moment, moment_of, plan_in, times_of}
 use Rattle.timed_sim.specs.Stretches.{HaveMade}
-use Rattle.timed_sim.proofs.Next.{IsNextAt, next_same}
+use Rattle.timed_sim.proofs.Counts.{steps_behind}
+use Rattle.timed_sim.proofs.Made.{plan_kept, times_kept}
+use Rattle.timed_sim.proofs.Next.{next_same}
+use Rattle.timed_sim.proofs.Numbered.{below_or_last}
 use Rattle.timed_sim.proofs.Steps.{times_same}
 
 -- 1. One event after another
@@ -61,19 +68,22 @@ same_also n s t u a b = record {
 
 -- 2. A run on its way: so many events were made at least, each the next by the rule
 
-pub record IsOnItsWay (costs : Costs) (work : Work) (turn : ℕ) (times : Times) (c : Core)
+pub record IsOnItsWay (costs : Costs) (work : Work) (plan : List PlanEntry) (turn : ℕ) (m : Moment)
     : Type 0 where
   pub run : List Due
   pub many : turn ≤ length run
   pub by_rule : AreNext costs work opening_times (opening_core work) run
   pub is_run : IsCoreRun work (opening_core work) (events_in run)
-  pub core_is : AreAlike work.layout.nodes c (after work (opening_core work) (events_in run))
-  pub times_are : AreSameTimes work.layout.nodes times
+  pub core_is : AreAlike work.layout.nodes m.core
+      (after work (opening_core work) (events_in run))
+  pub times_are : AreSameTimes work.layout.nodes m.times
       (times_after_all costs work opening_times (opening_core work) run)
+  pub steps_are : m.steps ≡ steps_made work plan (opening_core work) (events_in run)
 
-pub way_first : (costs : Costs) (work : Work) (times : Times) (c : Core) → c ≡ opening_core work
-    → AreSameTimes work.layout.nodes times opening_times → IsOnItsWay costs work 0 times c
-way_first costs work times c opening same = record {
+pub way_first : (costs : Costs) (work : Work) (plan : List PlanEntry) (m : Moment)
+    → m.core ≡ opening_core work → AreSameTimes work.layout.nodes m.times opening_times
+    → m.steps ≡ 0 → IsOnItsWay costs work plan 0 m
+way_first costs work plan m opening same none = record {
   run = [];
   many = omega arith;
   by_rule = tt;
@@ -81,38 +91,8 @@ way_first costs work times c opening same = record {
   core_is = subst (λ (z : Core). AreAlike work.layout.nodes z (opening_core work)) (sym opening)
       (alike_same work.layout.nodes (opening_core work));
   times_are = same;
+  steps_are = none;
 }
-
-pub way_more : (costs : Costs) (work : Work) (turn : ℕ) (times new_times : Times) (c new : Core)
-    (d : Due) → IsOnItsWay costs work turn times c → IsNextAt work times c d
-    → next work times c ≡ Some d → HasMade costs work times c d new_times new
-    → IsOnItsWay costs work (turn + 1) new_times new
-way_more costs work turn times new_times c new d way is here made =
-    let o = opening_core work in
-    let n = work.layout.nodes in
-    let middle = after work o (events_in way.run) in
-    let reached = times_after_all costs work opening_times o way.run in
-    let there : next work reached middle ≡ Some d =
-    next_same work reached times middle c (same_back n times reached way.times_are)
-    (alike_back n c middle way.core_is) ∙ here in
-    let may = may_alike work c middle d.event way.core_is is.may in
-    let many = way.many in
-    record {
-      run = way.run ++ d ∷ [];
-      many = omega (arith, length-append way.run (d ∷ []), many);
-      by_rule = next_append costs work opening_times o way.run (d ∷ []) way.by_rule (there, tt);
-      is_run = subst (IsCoreRun work o) (sym (events_append way.run (d ∷ [])))
-          (run_append work o (events_in way.run) (d.event ∷ []) way.is_run (may, tt));
-      core_is = subst (λ es. AreAlike n new (after work o es)) (sym (events_append way.run (d ∷ [])))
-          (subst (λ (z : Core). AreAlike n new z) (sym (after_append work o (events_in way.run) (d.event ∷ [])))
-          (alike_also n new (event_step work c d.event) (event_step work middle d.event) made.core_is
-          (after_alike work c middle (d.event ∷ []) way.core_is (is.may, tt))));
-      times_are = subst (λ (z : Times). AreSameTimes n new_times z)
-          (sym (times_append costs work opening_times o way.run (d ∷ [])))
-          (same_also n new_times (times_after costs work times c d) (times_after costs work reached middle d)
-          made.times_are
-          (times_same costs work times reached c middle d is.low is.may way.times_are way.core_is));
-    }
 
 -- cores and times that are the same make the same events
 may_low : (work : Work) (c : Core) (e : Event) → May work c e → node_of e < work.layout.nodes
@@ -143,12 +123,13 @@ times_all_same costs work s t c d (x ∷ xs) same alike run =
     (times_same costs work s t c d x (may_low work c x.event run.0) run.0 same alike)
     (after_alike work c d (x.event ∷ []) alike (run.0, tt)) run.1
 
-pub way_all : (costs : Costs) (work : Work) (turn : ℕ) (times new_times : Times) (c new : Core)
-    → IsOnItsWay costs work turn times c → HaveMade costs work times c new_times new
-    → IsOnItsWay costs work (turn + 1) new_times new
-way_all costs work turn times new_times c new way m =
+pub way_all : (costs : Costs) (work : Work) (plan : List PlanEntry) (turn : ℕ) (old new : Moment)
+    → IsOnItsWay costs work plan turn old → HaveMade costs work plan old new
+    → IsOnItsWay costs work plan (turn + 1) new
+way_all costs work plan turn old new way m =
     let o = opening_core work in
     let n = work.layout.nodes in
+    let c = old.core in
     let middle = after work o (events_in way.run) in
     let reached = times_after_all costs work opening_times o way.run in
     let es = events_in m.dues in
@@ -158,21 +139,47 @@ way_all costs work turn times new_times c new way m =
       run = way.run ++ m.dues;
       many = omega (arith, length-append way.run m.dues, many, some);
       by_rule = next_append costs work opening_times o way.run m.dues way.by_rule
-          (next_all_same costs work times reached c middle m.dues way.times_are way.core_is m.is_run
+          (next_all_same costs work old.times reached c middle m.dues way.times_are way.core_is m.is_run
           m.by_rule);
       is_run = subst (IsCoreRun work o) (sym (events_append way.run m.dues))
           (run_append work o (events_in way.run) es way.is_run
           (run_alike work c middle es way.core_is m.is_run));
-      core_is = subst (λ fs. AreAlike n new (after work o fs)) (sym (events_append way.run m.dues))
-          (subst (λ (z : Core). AreAlike n new z) (sym (after_append work o (events_in way.run) es))
-          (alike_also n new (after work c es) (after work middle es) m.core_is
+      core_is = subst (λ fs. AreAlike n new.core (after work o fs)) (sym (events_append way.run m.dues))
+          (subst (λ (z : Core). AreAlike n new.core z) (sym (after_append work o (events_in way.run) es))
+          (alike_also n new.core (after work c es) (after work middle es) m.core_is
           (after_alike work c middle es way.core_is m.is_run)));
-      times_are = subst (λ (z : Times). AreSameTimes n new_times z)
+      times_are = subst (λ (z : Times). AreSameTimes n new.times z)
           (sym (times_append costs work opening_times o way.run m.dues))
-          (same_also n new_times (times_after_all costs work times c m.dues)
+          (same_also n new.times (times_after_all costs work old.times c m.dues)
           (times_after_all costs work reached middle m.dues) m.times_are
-          (times_all_same costs work times reached c middle m.dues way.times_are way.core_is m.is_run));
+          (times_all_same costs work old.times reached c middle m.dues way.times_are way.core_is m.is_run));
+      steps_are = m.steps_are ∙ ap (λ z. z + steps_made work plan c es) way.steps_are
+          ∙ sym (steps_behind work plan o c (events_in way.run) es way.core_is m.is_run)
+          ∙ ap (steps_made work plan o) (sym (events_append way.run m.dues));
     }
+
+-- the same run, by costs, of work and by a plan that are the same
+pub way_of : (costs new_costs : Costs) (work new_work : Work) (plan new_plan : List PlanEntry)
+    (turn : ℕ) (m : Moment) → new_costs ≡ costs → new_work ≡ work → new_plan ≡ plan
+    → IsOnItsWay costs work plan turn m → IsOnItsWay new_costs new_work new_plan turn m
+way_of costs new_costs work new_work plan new_plan turn m same_costs same_work same_plan way =
+    subst (λ (k : Costs). IsOnItsWay k new_work new_plan turn m) (sym same_costs)
+    (subst (λ (w : Work). IsOnItsWay costs w new_plan turn m) (sym same_work)
+    (subst (λ (ps : List PlanEntry). IsOnItsWay costs work ps turn m) (sym same_plan) way))
+
+-- and where nothing has changed
+pub way_kept : (old new : TimedRun) (turn : ℕ) → IsKept old new
+    → IsOnItsWay old.costs (work_of old.core) (plan_in old) turn (moment_of old)
+    → IsOnItsWay new.costs (work_of new.core) (plan_in new) turn (moment_of new)
+way_kept old new turn kept way =
+    let times = times_kept old new kept in
+    let core = kept.core in
+    let count = kept.count in
+    let here : moment_of new ≡ moment_of old =
+    λ t. record { times = times t; core = core t; steps = (count t).steps } in
+    subst (IsOnItsWay new.costs (work_of new.core) (plan_in new) turn) (sym here)
+    (way_of old.costs new.costs (work_of old.core) (work_of new.core) (plan_in old) (plan_in new) turn
+    (moment_of old) kept.costs kept.work (plan_kept old new kept) way)
 
 -- no core run is as long as that
 most_few : (n budget : ℕ) → n ≤ 16 → budget ≤ 4294967296
@@ -188,12 +195,12 @@ length_events : (ds : List Due) → length (events_in ds) ≡ length ds
 length_events [] = refl
 length_events (d ∷ ds) = ap suc (length_events ds)
 
-pub not_so_long : (costs : Costs) (work : Work) (turn : ℕ) (times : Times) (c : Core)
+pub not_so_long : (costs : Costs) (work : Work) (plan : List PlanEntry) (turn : ℕ) (m : Moment)
     → RunsRewritten work → 18446744073709551615 ≤ turn
     → ((events : List Event) → IsCoreRun work (opening_core work) events
     → length events ≤ most_events work)
-    → IsOnItsWay costs work turn times c → ⊥
-not_so_long costs work turn times c runs long short way =
+    → IsOnItsWay costs work plan turn m → ⊥
+not_so_long costs work plan turn m runs long short way =
     let most = short (events_in way.run) way.is_run in
     let few = most_few work.layout.nodes work.budget runs.valid.few_nodes runs.few in
     let many = way.many in
@@ -220,13 +227,15 @@ idle_same last f g a (suc k) same =
     let rest = idle_same last f g (a + 1) k (λ i low high. same i (omega (arith, low)) (omega (arith, high))) in
     λ t. idle_until last (first t) ∷ rest t
 
-pub outcome_by_clock : (costs : Costs) (work : Work) (turn : ℕ) (times : Times) (c : Core)
-    (o : Outcome) (spent : List Spent) (last : ℕ) → IsOnItsWay costs work turn times c
-    → IsOver work c
-    → ((own : List Stamped) × StandsForOwnRun work c own × IsOutcomeOf work (run_of own) o)
-    → HasEnded work.layout.nodes times spent last → IsOutcomeByClock work costs o spent last
-outcome_by_clock costs work turn times c o spent last way over (own, stands, outcome) ended =
+pub outcome_by_clock : (costs : Costs) (work : Work) (plan : List PlanEntry) (turn : ℕ)
+    (m : Moment) (o : Outcome) (spent : List Spent) (last steps : ℕ)
+    → IsOnItsWay costs work plan turn m → IsOver work m.core
+    → ((own : List Stamped) × StandsForOwnRun work m.core own × IsOutcomeOf work (run_of own) o)
+    → HasEnded work.layout.nodes m.times spent last → steps ≡ m.steps
+    → IsOutcomeByClock work plan costs o spent last steps
+outcome_by_clock costs work plan turn m o spent last steps way over (own, stands, outcome) ended made =
     let n = work.layout.nodes in
+    let times = m.times in
     let final = after work (opening_core work) (events_in way.run) in
     let reached = times_after_all costs work opening_times (opening_core work) way.run in
     record {
@@ -238,8 +247,9 @@ outcome_by_clock costs work turn times c o spent last way over (own, stands, out
       spent_is = ended.spent_is
           ∙ idle_same last times.spent reached.spent 0 n (λ i low high. way.times_are.spent i (omega (arith, high)));
       own = own;
-      stands = stands_alike work final c own (alike_back n c final way.core_is) stands;
+      stands = stands_alike work final m.core own (alike_back n m.core final way.core_is) stands;
       outcome = outcome;
+      steps_are = made ∙ way.steps_are;
     }
 
 -- what follows from two facts where a result is Ok
@@ -247,6 +257,11 @@ pub both_ok : {X E : Type 0} (r : Result X E) (P Q R : X → Type 0) → ((x : X
     → IfOk r P → IfOk r Q → IfOk r R
 both_ok (Ok x) P Q R f p q = f x p q
 both_ok (Err e) P Q R f p q = tt
+
+pub all_ok : {X E : Type 0} (r : Result X E) (P Q R S : X → Type 0)
+    → ((x : X) → P x → Q x → R x → S x) → IfOk r P → IfOk r Q → IfOk r R → IfOk r S
+all_ok (Ok x) P Q R S f p q s = f x p q s
+all_ok (Err e) P Q R S f p q s = tt
 
 pub both_on_ok : {X E P Q R : Type 0} (r : Result X E) → (P → Q → R) → OnOk r P → OnOk r Q
     → OnOk r R
@@ -269,15 +284,6 @@ last_high (suc k) i f low = elim (below_or_last i k low) [
   | inr h ↦ subst (λ z. clock_of (f z) ≤ max (last_clock k f) (clock_of (f k))) (sym h)
       (le-max_right (last_clock k f) (clock_of (f k)))
 ]
-  where
-    below_or_last : (i k : ℕ) → i < suc k → (i < k) ⊎ (i ≡ k)
-    below_or_last zero zero low = inr refl
-    below_or_last zero (suc k) low = inl (omega arith)
-    below_or_last (suc i) zero low = absurd (omega (arith, low))
-    below_or_last (suc i) (suc k) low = elim (below_or_last i k (omega (arith, low))) [
-      | inl h ↦ inl (omega (arith, h))
-      | inr h ↦ inr (ap suc h)
-    ]
 
 idle_sum : (last : ℕ) (s : Spent) → clock_of s ≤ last → clock_of (idle_until last s) ≡ last
 idle_sum last s low = omega (arith, low)

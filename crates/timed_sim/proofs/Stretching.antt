@@ -1,27 +1,32 @@
 -- Words that nodes execute at once are those that come next by the rule, one after another.
-use Rattle.std.proofs.Common.{◌≡◌, ◌≢◌, ◌⊎◌, ℕ, zero, suc, ◌+◌, ◌-◌, ◌<◌, ◌≤◌, ◌^◌, Bool, true, false, cond, List, [], ◌∷◌, ◌++◌, length, Option, Some, None, refl, sym, ap, ◌∙◌, subst, inl, inr, arith, append-nil}
+use Rattle.std.proofs.Common.{◌≡◌, ◌⊎◌, ℕ, zero, suc, ◌+◌, ◌-◌, ◌<◌, ◌≤◌, ◌^◌, Bool, true, false, cond, List, [], ◌∷◌, ◌++◌, length, Option, Some, None, refl, sym, ap, ◌∙◌, subst, inl, inr, arith, append-nil}
 use Rattle.std.specs.Prelude.{nat_lt, slice_index_or, slice_set}
 use Rattle.std.proofs.lemmas.List.{get_or-set_other, get_or-set_same}
 use Rattle.std.proofs.lemmas.Bool.Decides.{eqb_tells, nat_tests}
+use Rattle.templates.specs.declared.plans.PlanEntry.{PlanEntry}
 use Rattle.block_layout.specs.Update.{changed}
 use Rattle.dsm_core.specs.node_machine.Runs.{GoesOnBy}
 use Rattle.dsm_core.specs.node_model.declared.Standing.{Standing}
 use Rattle.dsm_core.specs.node_model.declared.Standing.TheVariants.{Running, AtPoll, Waiting, Ended, Over}
-use Rattle.dsm_core.specs.node_model.Node.{Work, Node, Phase, can_execute, is_at_poll, standing_in, standing_of}
-use Rattle.dsm_core.specs.node_model.Node as node
+use Rattle.dsm_core.specs.node_model.Node.{Work, Node, standing_of}
 use Rattle.dsm_core.specs.node_model.Turns.{Turn, silent, word_turn}
 use Rattle.dsm_core.specs.node_model.Core.{Core, Exec, AreAlike, IsCoreRun, after, may_execute, event_step, wires_to}
 use Rattle.dsm_core.specs.CoreParts.{work_of, core_of}
 use Rattle.dsm_core.specs.CoreWords.{HasPassed, HaveEachPassed}
 use Rattle.dsm_core.proofs.CoreRuns.{alike_same}
+use Rattle.run_trace.specs.Steps.{steps_made}
+use Rattle.run_trace.proofs.StepCounts.{steps_more}
 use Rattle.timed_sim.specs.declared.costs.Costs.{Costs}
 use Rattle.timed_sim.specs.declared.costs.Spent.{Spent}
 use Rattle.timed_sim.specs.declared.run.TimedRun.{TimedRun}
 use Rattle.timed_sim.specs.Clock.{AreInRange, AreNext, Due, Times, at_poll, clock_of, earlier, earliest, events_in, first_to, from_clock, next, next_by, next_of, times_after, times_after_all}
-use Rattle.timed_sim.specs.Stored.{AreClocks, AreInStep, AreSameTimes, HasMade, IsReady, one_word_more, times_in, times_of, with_word}
+use Rattle.timed_sim.specs.Counted.{CountsFor}
+use Rattle.timed_sim.specs.Stored.{AreClocks, AreInStep, AreSameTimes, HasMade, IsReady, Moment, moment_of, one_word_more, plan_in, times_in, times_of, with_word}
 use Rattle.timed_sim.specs.Stretches.{AreFree, HaveMade, IsFree, IsFrom, more_words, with_words, words_until}
 use Rattle.timed_sim.proofs.Arrivals.{AreBy, by_more}
-use Rattle.timed_sim.proofs.Made.{within_same}
+use Rattle.timed_sim.proofs.Counts.{each_few, each_fewer, event_few, goes_may, none_each, steps_of_each, steps_of_word}
+use Rattle.timed_sim.proofs.Made.{counts_here, within_same}
+use Rattle.timed_sim.proofs.Numbered.{below_or_last, hit, other}
 use Rattle.timed_sim.proofs.Next.{IsNextAt, first_to_same, next_of_same}
 use Rattle.timed_sim.proofs.Steps.{step_within}
 use Rattle.timed_sim.proofs.Words.{word_due, word_made_at}
@@ -62,15 +67,6 @@ word_stays end w None low from = refl
 word_stays end w (Some y) low from =
     let less : nat_lt y.time w.time ≡ false = grind (arith, nat_tests, from, low) in
     ap (λ t. cond t (Some y) (Some w)) less
-
-below_or_last : (i k : ℕ) → i < suc k → (i < k) ⊎ (i ≡ k)
-below_or_last zero zero low = inr refl
-below_or_last zero (suc k) low = inl (omega arith)
-below_or_last (suc i) zero low = absurd (omega (arith, low))
-below_or_last (suc i) (suc k) low = elim (below_or_last i k (omega (arith, low))) [
-  | inl h ↦ inl (omega (arith, h))
-  | inr h ↦ inr (ap suc h)
-]
 
 none_or_some : (k : ℕ) → (k ≡ 0) ⊎ (1 ≤ k)
 none_or_some zero = inl refl
@@ -162,18 +158,6 @@ abbrev all_words : (words : ℕ → ℕ) → (n : ℕ) → ℕ
 all_words words zero = 0
 all_words words (suc k) = all_words words k + words k
 
-hit : {A : Type 0} (f : ℕ → A) (k : ℕ) (x : A) → changed f k x k ≡ x
-hit f k x = elim (eqb_tells k k) [
-  | inl t ↦ ap (λ b. cond b x (f k)) t.0
-  | inr t ↦ absurd (t.1 refl)
-]
-
-other : {A : Type 0} (f : ℕ → A) (k i : ℕ) (x : A) → i ≢ k → changed f k x i ≡ f i
-other f k i x apart = elim (eqb_tells i k) [
-  | inl t ↦ absurd (apart t.1)
-  | inr t ↦ ap (λ b. cond b x (f i)) t.0
-]
-
 words_below : (words : ℕ → ℕ) (k w n : ℕ) → n ≤ k
     → all_words (changed words k w) n ≡ all_words words n
 words_below words k w zero le = refl
@@ -242,23 +226,6 @@ early_in work times c d end words s = record {
       );
   late = s.others;
 }
-
-poll_may : (b : Bool) → may_execute (cond b AtPoll Running) ≡ true
-poll_may true = refl
-poll_may false = refl
-
-may_by : (work : Work) (n : Node) (p : Phase) → can_execute p ≡ true
-    → may_execute (standing_in work n p) ≡ true
-may_by work n node.Running can = poll_may (is_at_poll work n)
-may_by work n node.Resumed can = refl
-may_by work n (node.Waiting r) can = absurd (cc)
-may_by work n (node.Ended e) can = absurd (cc)
-
--- a node that goes on by words may execute the first; where there is none it is the last
-goes_may : (work : Work) (k : ℕ) (n m : Node) → GoesOnBy work k n m
-    → may_execute (standing_of work m) ≡ true → may_execute (standing_of work n) ≡ true
-goes_may work zero n m on may = ap (λ (z : Node). may_execute (standing_of work z)) on ∙ may
-goes_may work (suc k) n m on may = may_by work n n.phase on.0
 
 -- a word that sends nothing leaves the lists as they are
 silent_list : (work : Work) (c : Core) (k j i : ℕ)
@@ -449,7 +416,8 @@ no_words words (suc m) none =
     let last = none m (omega arith) in
     omega (arith, before, last)
 
-record AreMade (costs : Costs) (work : Work) (times new_times : Times) (c d : Core) (total : ℕ)
+record AreMade (costs : Costs) (work : Work) (plan : List PlanEntry) (times new_times : Times)
+    (c d : Core) (total steps : ℕ)
     : Type 0 where
   dues : List Due
   many : length dues ≡ total
@@ -457,21 +425,26 @@ record AreMade (costs : Costs) (work : Work) (times new_times : Times) (c d : Co
   is_run : IsCoreRun work c (events_in dues)
   core_is : AreAlike work.layout.nodes d (after work c (events_in dues))
   times_are : AreSameTimes work.layout.nodes new_times (times_after_all costs work times c dues)
+  steps_are : steps_made work plan c (events_in dues) ≡ steps
 
 -- so many words more lead there, from wherever the stretch stands
-abbrev LeadThere : Costs → Work → (total end : ℕ) → (new_times : Times) → (d : Core) → Type 0
-LeadThere costs work total end new_times d = (words : ℕ → ℕ) (times : Times) (c : Core)
+abbrev LeadThere : Costs → Work → List PlanEntry → (total end : ℕ) → (new_times : Times)
+    → (d : Core) → Type 0
+LeadThere costs work plan total end new_times d = (words : ℕ → ℕ) (times : Times) (c : Core)
     → all_words words work.layout.nodes ≡ total → IsStretch work times c d end words
     → AreSameTimes work.layout.nodes new_times (with_words words times)
-    → AreMade costs work times new_times c d total
+    → AreMade costs work plan times new_times c d total
+    (steps_of_each work plan words c.nodes work.layout.nodes)
 
-one_made : (costs : Costs) (work : Work) (total end k w : ℕ) (words : ℕ → ℕ)
-    (times new_times : Times) (c d : Core) → LeadThere costs work total end new_times d
+one_made : (costs : Costs) (work : Work) (plan : List PlanEntry) (total end k w : ℕ)
+    (words : ℕ → ℕ) (times new_times : Times) (c d : Core)
+    → LeadThere costs work plan total end new_times d
     → all_words words work.layout.nodes ≡ suc total → IsStretch work times c d end words
     → AreSameTimes work.layout.nodes new_times (with_words words times) → k < work.layout.nodes
     → words k ≡ suc w → next work times c ≡ Some (word_due times k)
-    → AreMade costs work times new_times c d (suc total)
-one_made costs work total end k w words times new_times c d lead all s same low count is =
+    → AreMade costs work plan times new_times c d (suc total)
+    (steps_of_each work plan words c.nodes work.layout.nodes)
+one_made costs work plan total end k w words times new_times c d lead all s same low count is =
     let n = work.layout.nodes in
     let b = behind_word costs work times c d end words k w low count s in
     let later = times_after costs work times c (word_due times k) in
@@ -493,23 +466,29 @@ one_made costs work total end k w words times new_times c d lead all s same low 
       is_run = ((low, s.may k low (omega (arith, count))), rest.is_run);
       core_is = rest.core_is;
       times_are = rest.times_are;
+      steps_are = steps_more work plan c (Exec k) (events_in rest.dues)
+          ∙ ap (λ z. steps_of_word work plan (c.nodes k) + z) rest.steps_are
+          ∙ sym (each_fewer work plan words c.nodes k w n low count);
     }
 
-first_made : (costs : Costs) (work : Work) (total end : ℕ) (words : ℕ → ℕ)
-    (times new_times : Times) (c d : Core) → LeadThere costs work total end new_times d
+first_made : (costs : Costs) (work : Work) (plan : List PlanEntry) (total end : ℕ)
+    (words : ℕ → ℕ) (times new_times : Times) (c d : Core)
+    → LeadThere costs work plan total end new_times d
     → all_words words work.layout.nodes ≡ suc total → IsStretch work times c d end words
     → AreSameTimes work.layout.nodes new_times (with_words words times)
     → IsEarliest (next_of work times c) words times end work.layout.nodes
-    → AreMade costs work times new_times c d (suc total)
-first_made costs work total end words times new_times c d lead all s same (NoWord none from) =
+    → AreMade costs work plan times new_times c d (suc total)
+    (steps_of_each work plan words c.nodes work.layout.nodes)
+first_made costs work plan total end words times new_times c d lead all s same (NoWord none from) =
     let zero = no_words words work.layout.nodes none in absurd (omega (arith, zero, all))
-first_made costs work total end words times new_times c d lead all s same (Word k low some near is) =
+first_made costs work plan total end words times new_times c d lead all s same
+    (Word k low some near is) =
     let w = pred_of (words k) some in
-    one_made costs work total end k w.0 words times new_times c d lead all s same low w.1 is
+    one_made costs work plan total end k w.0 words times new_times c d lead all s same low w.1 is
 
-all_made : (costs : Costs) (work : Work) (total end : ℕ) (new_times : Times) (d : Core)
-    → LeadThere costs work total end new_times d
-all_made costs work zero end new_times d words times c all s same =
+all_made : (costs : Costs) (work : Work) (plan : List PlanEntry) (total end : ℕ)
+    (new_times : Times) (d : Core) → LeadThere costs work plan total end new_times d
+all_made costs work plan zero end new_times d words times c all s same =
     let none = none_left words work.layout.nodes all in
     record {
       dues = [];
@@ -525,23 +504,37 @@ all_made costs work zero end new_times d words times c all s same =
         needs = same.needs;
         arrivals = same.arrivals;
       };
+      steps_are = sym (none_each work plan words c.nodes work.layout.nodes none);
     }
-all_made costs work (suc total) end new_times d words times c all s same =
-    first_made costs work total end words times new_times c d
-    (all_made costs work total end new_times d) all s same
+all_made costs work plan (suc total) end new_times d words times c all s same =
+    first_made costs work plan total end words times new_times c d
+    (all_made costs work plan total end new_times d) all s same
     (earliest_word (next_of work times c) words times end work.layout.nodes
     (early_in work times c d end words s))
 
-pub stretch_made : (costs : Costs) (work : Work) (end k : ℕ) (words : ℕ → ℕ)
-    (times new_times : Times) (c d : Core) → k < work.layout.nodes → 1 ≤ words k
-    → ((i : ℕ) → i < work.layout.nodes → words i ≤ 4096) → IsStretch work times c d end words
-    → AreSameTimes work.layout.nodes new_times (with_words words times)
-    → HaveMade costs work times c new_times d
-stretch_made costs work end k words times new_times c d low some few s same =
+-- this is what is known of a run behind the words of a stretch
+pub record IsBehind (work : Work) (plan : List PlanEntry) (words : ℕ → ℕ) (old new : Moment)
+    : Type 0 where
+  pub nodes : work.layout.nodes ≤ 16
+  pub few : (i : ℕ) → i < work.layout.nodes → words i ≤ 4096
+  pub times : AreSameTimes work.layout.nodes new.times (with_words words old.times)
+  pub steps : new.steps
+      ≡ old.steps + steps_of_each work plan words old.core.nodes work.layout.nodes
+
+pub stretch_made : (costs : Costs) (work : Work) (plan : List PlanEntry) (end k : ℕ)
+    (words : ℕ → ℕ) (old new : Moment) → k < work.layout.nodes → 1 ≤ words k
+    → IsStretch work old.times old.core new.core end words → IsBehind work plan words old new
+    → HaveMade costs work plan old new
+stretch_made costs work plan end k words old new low some s b =
     let n = work.layout.nodes in
-    let m = all_made costs work (all_words words n) end new_times d words times c refl s same in
+    let same = b.times in
+    let m = all_made costs work plan (all_words words n) end new.times new.core words old.times
+    old.core refl s same in
     let many = m.many in
     let one = some_left words n k low some in
+    let sum = b.steps in
+    let nodes = b.nodes in
+    let most = each_few work plan words old.core.nodes n b.few in
     record {
       dues = m.dues;
       some = omega (arith, many, one);
@@ -549,17 +542,19 @@ stretch_made costs work end k words times new_times c d low some few s same =
       is_run = m.is_run;
       core_is = m.core_is;
       times_are = m.times_are;
+      steps_are = b.steps ∙ ap (λ z. old.steps + z) (sym m.steps_are);
       within = λ lines most within. record {
         clocks = λ i bi.
             let clock = within.clocks i bi in
-            let little = few i bi in
+            let little = b.few i bi in
             subst (λ (z : Spent). clock_of z ≤ most + 2 ^ 26) (sym (same.spent i bi))
             (omega (arith, clock, little));
         arrivals = λ j i bj bi. subst (λ (ts : List ℕ). AreBy (most + 2 ^ 26) ts)
             (sym (same.arrivals j i bj bi))
-            (by_more most (most + 2 ^ 26) (times.arrivals j i) (omega arith)
+            (by_more most (most + 2 ^ 26) (old.times.arrivals j i) (omega arith)
             (within.arrivals j i bj bi));
       };
+      few = omega (arith, sum, most, nodes);
     }
 
 -- 6. Words that were executed until a time are a stretch
@@ -625,31 +620,38 @@ set_on xs P n v low before here i more = elim (eqb_tells i n) [
 ]
 
 -- one event that comes next is made, where no more can be made at once
-pub one_event : (costs : Costs) (work : Work) (times new_times : Times) (c new : Core) (d : Due)
-    → AreInRange costs → IsNextAt work times c d → next work times c ≡ Some d
-    → HasMade costs work times c d new_times new → HaveMade costs work times c new_times new
-one_event costs work times new_times c new d range is here made = record {
-  dues = d ∷ [];
-  some = omega arith;
-  by_rule = (here, tt);
-  is_run = (is.may, tt);
-  core_is = made.core_is;
-  times_are = made.times_are;
-  within = λ few most within. within_same work.layout.nodes (most + 2 ^ 26) new_times
-      (times_after costs work times c d) made.times_are
-      (step_within costs work times c d most range few is within);
-}
+pub one_event : (costs : Costs) (work : Work) (plan : List PlanEntry) (old new : Moment) (d : Due)
+    → AreInRange costs → IsNextAt work old.times old.core d → next work old.times old.core ≡ Some d
+    → HasMade costs work old.times old.core d new.times new.core
+    → new.steps ≡ old.steps + steps_made work plan old.core (d.event ∷ [])
+    → HaveMade costs work plan old new
+one_event costs work plan old new d range is here made steps =
+    let one = event_few work plan old.core d.event in
+    record {
+      dues = d ∷ [];
+      some = omega arith;
+      by_rule = (here, tt);
+      is_run = (is.may, tt);
+      core_is = made.core_is;
+      times_are = made.times_are;
+      steps_are = steps;
+      within = λ few most within. within_same work.layout.nodes (most + 2 ^ 26) new.times
+          (times_after costs work old.times old.core d) made.times_are
+          (step_within costs work old.times old.core d most range few is within);
+      few = omega (arith, steps, one);
+    }
 
 -- 7. A run behind a stretch
 
 pub stretch_ready : (old new : TimedRun) (words : ℕ → ℕ) → work_of new.core ≡ work_of old.core
-    → new.costs ≡ old.costs → new.undo_logs ≡ old.undo_logs
+    → new.costs ≡ old.costs → new.undo_logs ≡ old.undo_logs → plan_in new ≡ plan_in old
+    → CountsFor (work_of old.core) (plan_in old) new.count
     → HaveEachPassed (work_of old.core) words (core_of old.core) (core_of new.core)
     → AreClocks old.core.layout.nodes new.clocks
     → AreSameTimes old.core.layout.nodes (times_of old.core.layout.nodes new.clocks)
     (with_words words (times_in old))
     → IsReady old → IsReady new
-stretch_ready old new words same costs logs passed clocks times ready = record {
+stretch_ready old new words same costs logs plan counts passed clocks times ready = record {
   clocks = subst (λ (w : Work). AreClocks w.layout.nodes new.clocks) (sym same) clocks;
   costs = subst AreInRange (sym costs) ready.costs;
   undo_logs = logs ∙ ready.undo_logs ∙ ap (λ (w : Work). w.layout.nodes) (sym same);
@@ -657,6 +659,7 @@ stretch_ready old new words same costs logs passed clocks times ready = record {
       (sym same)
       (λ j i bj bi. ap length (times.arrivals j i bj bi) ∙ ready.in_step j i bj bi
       ∙ ap length (sym (passed.lists j i bj bi)));
+  counts = counts_here old new same plan counts;
 }
 
 pub stretch_by : (old new : TimedRun) (end k : ℕ) (words : ℕ → ℕ)
@@ -668,13 +671,20 @@ pub stretch_by : (old new : TimedRun) (end k : ℕ) (words : ℕ → ℕ)
     → HaveEachPassed (work_of old.core) words (core_of old.core) (core_of new.core)
     → AreSameTimes old.core.layout.nodes (times_of old.core.layout.nodes new.clocks)
     (with_words words (times_in old))
-    → HaveMade old.costs (work_of old.core) (times_in old) (core_of old.core) (times_in new)
-    (core_of new.core)
-stretch_by old new end k words same low some few are free passed times =
+    → old.core.layout.nodes ≤ 16
+    → new.count.steps ≡ old.count.steps
+    + steps_of_each (work_of old.core) (plan_in old) words (core_of old.core).nodes
+    old.core.layout.nodes
+    → HaveMade old.costs (work_of old.core) (plan_in old) (moment_of old) (moment_of new)
+stretch_by old new end k words same low some few are free passed times nodes steps =
     let work = work_of old.core in
     let n = old.core.layout.nodes in
-    stretch_made old.costs work end k words (times_in old) (times_in new) (core_of old.core)
-    (core_of new.core) low some few
+    stretch_made old.costs work (plan_in old) end k words (moment_of old) (moment_of new) low some
     (is_stretch work (times_in old) (core_of old.core) (core_of new.core) end words are free passed)
-    (subst (λ m. AreSameTimes n (times_of m new.clocks) (with_words words (times_in old)))
-    (sym (ap (λ (w : Work). w.layout.nodes) same)) times)
+    (record {
+      nodes = nodes;
+      few = few;
+      times = subst (λ m. AreSameTimes n (times_of m new.clocks) (with_words words (times_in old)))
+          (sym (ap (λ (w : Work). w.layout.nodes) same)) times;
+      steps = steps;
+    })

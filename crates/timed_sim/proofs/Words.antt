@@ -14,6 +14,7 @@ use Rattle.dsm_core.specs.node_model.Core.{Core, Exec, May, may_execute}
 use Rattle.dsm_core.specs.CoreParts.{work_of, core_of}
 use Rattle.dsm_core.specs.CoreWords.{HasPassed}
 use Rattle.dsm_core.specs.Seen.{sends_at, wants_at}
+use Rattle.run_trace.specs.Committing.{IsSilentNode}
 use Rattle.timed_sim.specs.declared.costs.Costs.{Costs}
 use Rattle.timed_sim.specs.declared.costs.Spent.{Spent}
 use Rattle.timed_sim.specs.declared.run.TimedRun.{TimedRun}
@@ -61,13 +62,28 @@ no_wants work n t budget executed (Enters a) may = refl
 no_wants work n t budget executed (Waits resume want more) may = absurd (cc)
 no_wants work n t budget executed (Leaves e) may = refl
 
+-- it leaves its node as its turn does, which may execute another
+passed_node : (work : Work) (i : ℕ) (c d : Core) → i < work.layout.nodes → HasPassed work i c d
+    → d.nodes i ≡ (word_turn work (c.nodes i)).node
+passed_node work i c d low p =
+    let n = c.nodes i in
+    let next = (word_turn work n).node in
+    let same : eqb i i ≡ true = elim (eqb_tells i i) [ inl t ↦ t.0 | inr t ↦ absurd (t.1 refl) ] in
+    p.event.nodes i low ∙ ap (λ b. cond b next n) same
+
+pub passed_silent : (work : Work) (i : ℕ) (c d : Core) → i < work.layout.nodes
+    → HasPassed work i c d → IsSilentNode work (c.nodes i)
+passed_silent work i c d low p = record {
+  turn = p.silent;
+  may = subst (λ (n : Node). may_execute (standing_of work n) ≡ true) (passed_node work i c d low p)
+      p.may.1;
+}
+
 passed_wants : (work : Work) (i : ℕ) (c d : Core) → i < work.layout.nodes → HasPassed work i c d
     → wants_of_word work (c.nodes i) ≡ []
 passed_wants work i c d low p =
     let n = c.nodes i in
-    let next = (word_turn work n).node in
-    let same : eqb i i ≡ true = elim (eqb_tells i i) [ inl t ↦ t.0 | inr t ↦ absurd (t.1 refl) ] in
-    let here : d.nodes i ≡ next = p.event.nodes i low ∙ ap (λ b. cond b next n) same in
+    let here = passed_node work i c d low p in
     let phase = ap (λ (x : Node). x.phase) here ∙ word_phase work n in
     no_wants work (d.nodes i) (after_word work n) work.budget (n.executed + 1)
     (word_outcome work n).move

@@ -1,6 +1,7 @@
 -- Core runs whose events follow a clock. The unit is the time that a node takes for one word.
 use Rattle.std.specs.Prelude.{◌≡◌, ℕ, zero, suc, ◌+◌, ◌-◌, ◌*◌, ◌≤◌, ◌==◌, ◌&&◌, max, nat_lt, if◌then◌else◌, List, [], ◌∷◌, ◌++◌, Option, Some, None, map, length, slice_index_or}
 use Rattle.std.specs.List.{range_with_len}
+use Rattle.templates.specs.declared.plans.PlanEntry.{PlanEntry}
 use Rattle.block_layout.specs.Layout.{Shape, blocks, lines}
 use Rattle.block_layout.specs.Update.{changed}
 use Rattle.dsm_core.specs.dsm_messages.declared.messages.Need.{Need}
@@ -17,6 +18,7 @@ use Rattle.dsm_core.specs.node_model.Core.{Core, Event, Exec, Take, IsCoreRun, I
 use Rattle.dsm_core.specs.node_model.Outcome.{Outcome, IsOutcomeOf}
 use Rattle.dsm_core.specs.run_order.OwnRun.{Stamped, StandsForOwnRun, node_of, run_of}
 use Rattle.dsm_core.specs.Seen.{sends_at, wants_at}
+use Rattle.run_trace.specs.Steps.{steps_made}
 use Rattle.timed_sim.specs.declared.costs.Costs.{Costs}
 use Rattle.timed_sim.specs.declared.costs.Spent.{Spent}
 
@@ -240,12 +242,12 @@ last_clock (suc k) spent = max (last_clock k spent) (clock_of (spent k))
 abbrev pub idle_until : (last : ℕ) → Spent → Spent
 idle_until last s = record s { idle = s.idle + (last - clock_of s) }
 
--- The outcome of the core run of a clock, what each node has spent its time on, and the time at
--- which the last node is over. The nodes make the events that the rule gives until each is over.
--- They are a core run like any other: the core that they reach stands for its own run, whose
--- outcome this is.
-pub record IsOutcomeByClock (work : Work) (costs : Costs) (o : Outcome) (spent : List Spent)
-    (last : ℕ)
+-- The outcome of the core run of a clock, what each node has spent its time on, the time at which
+-- the last node is over, and how many steps of the original the run makes. The nodes make the
+-- events that the rule gives until each is over. They are a core run like any other: the core that
+-- they reach stands for its own run, whose outcome this is.
+pub record IsOutcomeByClock (work : Work) (plan : List PlanEntry) (costs : Costs) (o : Outcome)
+    (spent : List Spent) (last steps : ℕ)
     : Type 0 where
   pub run : List Due
   pub by_rule : AreNext costs work opening_times (opening_core work) run
@@ -259,3 +261,4 @@ pub record IsOutcomeByClock (work : Work) (costs : Costs) (o : Outcome) (spent :
   pub own : List Stamped
   pub stands : StandsForOwnRun work (after work (opening_core work) (events_in run)) own
   pub outcome : IsOutcomeOf work (run_of own) o
+  pub steps_are : steps ≡ steps_made work plan (opening_core work) (events_in run)

@@ -1,3 +1,4 @@
 pub mod Clock
 pub mod Stored
 pub mod Stretches
+pub mod Counted

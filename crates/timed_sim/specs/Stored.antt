@@ -1,6 +1,7 @@
 -- Helps the code alone: clocks and links, as they are stored.
-use Rattle.std.specs.Prelude.{◌≡◌, ℕ, ◌+◌, ◌*◌, ◌<◌, ◌≤◌, List, [], All, map, length, slice_index_or}
+use Rattle.std.specs.Prelude.{◌≡◌, ℕ, ◌+◌, ◌*◌, ◌<◌, ◌≤◌, List, [], ◌∷◌, All, map, length, slice_index_or}
 use Rattle.std.specs.List.{range_with_len}
+use Rattle.templates.specs.declared.plans.PlanEntry.{PlanEntry}
 use Rattle.block_layout.specs.Layout.{Shape}
 use Rattle.block_layout.specs.Update.{changed}
 use Rattle.dsm_core.specs.dsm_messages.declared.messages.Need.TheVariants.{Read}
@@ -8,11 +9,13 @@ use Rattle.dsm_core.specs.dsm_messages.declared.headers.Sent.{Sent}
 use Rattle.dsm_core.specs.node_model.Node.{Work}
 use Rattle.dsm_core.specs.node_model.Core.{Core, Event, Exec, Take, AreAlike, event_step}
 use Rattle.dsm_core.specs.CoreParts.{work_of, core_of, event_of}
+use Rattle.run_trace.specs.Steps.{steps_made}
 use Rattle.timed_sim.specs.declared.clocks.Clocks.{Clocks}
 use Rattle.timed_sim.specs.declared.costs.Costs.{Costs}
 use Rattle.timed_sim.specs.declared.costs.Spent.{Spent}
 use Rattle.timed_sim.specs.declared.due.Due.{Due as Stored}
 use Rattle.timed_sim.specs.declared.run.TimedRun.{TimedRun}
+use Rattle.timed_sim.specs.Counted.{CountsFor}
 use Rattle.timed_sim.specs.Clock.{AreInRange, Times, Due, nothing_spent, clock_of, with_sends, times_after, last_clock, idle_until}
 
 abbrev pub due_of : Stored → Due
@@ -84,11 +87,25 @@ AreInStep n times c = (j i : ℕ) → j < n → i < n
 abbrev pub times_in : TimedRun → Times
 times_in r = times_of r.core.layout.nodes r.clocks
 
+-- the plan of the rewritten code that it runs
+abbrev pub plan_in : TimedRun → List PlanEntry
+plan_in r = r.count.plan.now
+
+-- where a run stands: its times, its core, and how many steps of the original it has made
+pub record Moment : Type 0 where
+  pub times : Times
+  pub core : Core
+  pub steps : ℕ
+
+abbrev pub moment_of : TimedRun → Moment
+moment_of r = record { times = times_in r; core = core_of r.core; steps = r.count.steps }
+
 pub record IsReady (r : TimedRun) : Type 0 where
   pub clocks : AreClocks r.core.layout.nodes r.clocks
   pub costs : AreInRange r.costs
   pub undo_logs : r.undo_logs ≡ r.core.layout.nodes
   pub in_step : AreInStep r.core.layout.nodes (times_in r) (core_of r.core)
+  pub counts : CountsFor (work_of r.core) (plan_in r) r.count
 
 -- the event was made
 pub record HasMade (costs : Costs) (work : Work) (times : Times) (c : Core) (d : Due)
@@ -97,6 +114,11 @@ pub record HasMade (costs : Costs) (work : Work) (times : Times) (c : Core) (d :
   pub core_is : AreAlike work.layout.nodes new (event_step work c d.event)
   pub times_are : AreSameTimes work.layout.nodes new_times (times_after costs work times c d)
 
+-- the steps of an event were made
+abbrev pub HaveBeenMade : (old new : TimedRun) → Event → Type 0
+HaveBeenMade old new e = new.count.steps
+    ≡ old.count.steps + steps_made (work_of old.core) (plan_in old) (core_of old.core) (e ∷ [])
+
 -- nothing of the run has changed but how many words are tried at once
 pub record IsKept (old new : TimedRun) : Type 0 where
   pub work : work_of new.core ≡ work_of old.core
@@ -104,6 +126,7 @@ pub record IsKept (old new : TimedRun) : Type 0 where
   pub clocks : new.clocks ≡ old.clocks
   pub costs : new.costs ≡ old.costs
   pub undo_logs : new.undo_logs ≡ old.undo_logs
+  pub count : new.count ≡ old.count
 
 -- this is what n nodes have spent once each is idle until the last clock, and the last clock
 pub record HasEnded (n : ℕ) (times : Times) (spent : List Spent) (last : ℕ) : Type 0 where

@@ -1,12 +1,14 @@
 -- Helps the code alone: words of several nodes that are made at once.
 use Rattle.std.specs.Prelude.{◌≡◌, ℕ, ◌+◌, ◌-◌, ◌<◌, ◌≤◌, ◌^◌, true, false, if◌then◌else◌, List, length, Option, Some, None}
+use Rattle.templates.specs.declared.plans.PlanEntry.{PlanEntry}
 use Rattle.block_layout.specs.Layout.{Shape, blocks, lines}
 use Rattle.dsm_core.specs.node_model.Node.{Work, standing_of}
 use Rattle.dsm_core.specs.node_model.Core.{Core, AreAlike, IsCoreRun, after, may_execute}
+use Rattle.run_trace.specs.Steps.{steps_made}
 use Rattle.timed_sim.specs.declared.costs.Costs.{Costs}
 use Rattle.timed_sim.specs.declared.costs.Spent.{Spent}
 use Rattle.timed_sim.specs.Clock.{AreNext, Due, Times, clock_of, events_in, first_to, next_of, times_after_all}
-use Rattle.timed_sim.specs.Stored.{AreSameTimes, AreWithin}
+use Rattle.timed_sim.specs.Stored.{AreSameTimes, AreWithin, Moment}
 
 -- no node executes more words at once
 abbrev pub most_words : ℕ
@@ -50,16 +52,19 @@ with_words words times = record {
 abbrev pub HaveFewLines : Shape → Type 0
 HaveFewLines layout = (b : ℕ) → b < blocks layout → lines layout b ≤ 64
 
--- events were made, each the next by the rule, one at least, and no time is far from those before
-pub record HaveMade (costs : Costs) (work : Work) (times : Times) (c : Core) (new_times : Times)
-    (new : Core)
-    : Type 0 where
-  pub dues : List Due
-  pub some : 1 ≤ length dues
-  pub by_rule : AreNext costs work times c dues
-  pub is_run : IsCoreRun work c (events_in dues)
-  pub core_is : AreAlike work.layout.nodes new (after work c (events_in dues))
-  pub times_are : AreSameTimes work.layout.nodes new_times
-      (times_after_all costs work times c dues)
-  pub within : HaveFewLines work.layout → (most : ℕ) → AreWithin work.layout.nodes most times
-      → AreWithin work.layout.nodes (most + 2 ^ 26) new_times
+-- events were made, each the next by the rule, one at least, and their steps were counted; no time
+-- is far from those before, and the steps are few
+pub record HaveMade (costs : Costs) (work : Work) (plan : List PlanEntry) (old new : Moment) : Type 0
+  where
+    pub dues : List Due
+    pub some : 1 ≤ length dues
+    pub by_rule : AreNext costs work old.times old.core dues
+    pub is_run : IsCoreRun work old.core (events_in dues)
+    pub core_is : AreAlike work.layout.nodes new.core (after work old.core (events_in dues))
+    pub times_are : AreSameTimes work.layout.nodes new.times
+        (times_after_all costs work old.times old.core dues)
+    pub steps_are : new.steps ≡ old.steps + steps_made work plan old.core (events_in dues)
+    pub within : HaveFewLines work.layout → (most : ℕ)
+        → AreWithin work.layout.nodes most old.times
+        → AreWithin work.layout.nodes (most + 2 ^ 26) new.times
+    pub few : new.steps ≤ old.steps + 2 ^ 26

@@ -3,6 +3,7 @@
 
 mod clocks;
 mod costs;
+mod counting;
 mod due;
 mod link;
 mod links;

@@ -14,17 +14,20 @@ const BEFORE: &str = "before";
 /// A page of one node and of two, and what it says. The original makes five steps on one processor:
 /// lui, beq, addi, addi and ecall. One node takes 26, and 500 / 26 is 19. Two take 418, and spend
 /// 836 together: 18 on words, 230 on waits to read, 160 on handling, and 428 idle. Of 600 pixels 12
-/// are for words, and the waits to read end at 177, rounded down.
-const SHOWN: (&str, [&str; 6]) = (
+/// are for words, and the waits to read end at 177, rounded down. The second node makes six steps,
+/// lw too. So 11 of the 18 words are of the original, which end at 7 pixels, rounded down.
+const SHOWN: (&str, [&str; 7]) = (
     "speedup IN OUT --nodes 2 --latency 100 --line 10 --handling 20",
     [
         "--nodes 2 --budget 100000000 --latency 100 --line 10 --handling 20</code>",
         "the original makes 5 steps",
-        "<tr><th>1</th><td>26</td><td>0.19</td><td>6<small>23%</small></td>",
+        "<tr><th>1</th><td>26</td><td>0.19</td><td>6<small>23%</small></td>\
+            <td>5<small>83%</small></td>",
         "<tr><th>2</th><td>418</td><td>0.01</td><td>18<small>2%</small></td>\
-            <td>230<small>27%</small></td><td>0<small>0%</small></td>\
+            <td>11<small>61%</small></td><td>230<small>27%</small></td><td>0<small>0%</small></td>\
             <td>160<small>19%</small></td><td>428<small>51%</small></td></tr>",
-        "<rect class='words' x='88' width='12' y='30' height='18'/>",
+        "<rect class='steps' x='88' width='7' y='30' height='18'/>",
+        "<rect class='checks' x='95' width='5' y='30' height='18'/>",
         "<rect class='reads' x='100' width='165' y='30' height='18'/>",
     ],
 );

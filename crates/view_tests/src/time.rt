@@ -22,6 +22,10 @@ use test_calls::files::executable;
 /// executes lw, addi, addi and call, from 278 to 282, and ends: its Byes are there at 282, which it
 /// takes, to 302, and at 382.
 ///
+/// Of the original node 0 makes five steps: lui, beq, for which bne and jal stand, addi, addi and
+/// ecall. Node 1 makes six: lui, beq, lw, addi, addi and ecall. Its other six words are those of
+/// the check of lw: the first lw reads the flag word, so the second one commits, behind miss.r.
+///
 /// Node 0 takes the Done at 378, to 398, and then the Bye, to 418. So node 0 took five messages and
 /// was idle from 26 to 108 and from 148 to 378, which is 312; node 1 took three, and is idle from
 /// 302 to 418.
@@ -34,7 +38,7 @@ const SHARED: Row = (
         "node 1 read 1 exclusive 0 upgrade 0 false 0 invalidations 0 fallbacks 0 messages 2\n",
         "node 0 time 418 words 6 waits-to-read 0 waits-to-write 0 handling 100 idle 312\n",
         "node 1 time 418 words 12 waits-to-read 230 waits-to-write 0 handling 60 idle 116\n",
-        "time 418\n",
+        "steps 11\ntime 418\n",
     ],
     "",
 );
@@ -47,7 +51,7 @@ const ALONE: Row = (
         "output 0\n\nprocessor 0 exit 0\n",
         "node 0 read 0 exclusive 0 upgrade 0 false 0 invalidations 0 fallbacks 0 messages 0\n",
         "node 0 time 26 words 6 waits-to-read 0 waits-to-write 0 handling 20 idle 0\n",
-        "time 26\n",
+        "steps 5\ntime 26\n",
     ],
     "",
 );

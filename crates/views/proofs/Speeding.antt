@@ -4,6 +4,8 @@ use Rattle.std.specs.Prelude.{All}
 use Rattle.std.proofs.Math.Seq.{take-suc}
 use Rattle.std.proofs.lemmas.List.Elements.{All-append}
 use Rattle.std.proofs.lemmas.List.FromFn.{length-map-range_with_len}
+use Rattle.elf32_read.specs.Elf.{Elf}
+use Rattle.templates.specs.declared.plans.PlanEntry.{PlanEntry}
 use Rattle.node_model.specs.Node.{Work}
 use Rattle.node_model.specs.Core.{opening_core, after}
 use Rattle.node_model.specs.Outcome.{Outcome}
@@ -12,7 +14,7 @@ use Rattle.timed_sim.specs.declared.costs.Spent.{Spent}
 use Rattle.timed_sim.specs.Clock.{IsOutcomeByClock, clock_of, events_in}
 use Rattle.speedup_page.specs.declared.row.Row.{Row}
 use Rattle.judged_files.specs.Inputs.{Inputs}
-use Rattle.prepared_run.specs.Ready.{GivesRuns}
+use Rattle.prepared_run.specs.Ready.{GivesRuns, IsAskedWork}
 use Rattle.views.specs.Speedup.{AreRowsOf, IsRowOf, row_from}
 
 -- rows, and one more
@@ -42,26 +44,32 @@ one_count ns i n lt is =
     ap (λ k. take k ns) next ∙ take-suc ns i n lt ∙ ap (λ x. take i ns ++ x ∷ []) (sym is)
 
 -- what each of the nodes has spent, which are no more than 16
-pub few_spent : (work : Work) (costs : Costs) (o : Outcome) (spent : List Spent) (time n : ℕ)
-    → IsOutcomeByClock work costs o spent time → work.layout.nodes ≡ n → n ≤ 16
-    → length spent ≤ 16
-few_spent work costs o spent time n ran count few =
+pub few_spent : (work : Work) (plan : List PlanEntry) (costs : Costs) (o : Outcome)
+    (spent : List Spent) (time steps n : ℕ) → IsOutcomeByClock work plan costs o spent time steps
+    → work.layout.nodes ≡ n → n ≤ 16 → length spent ≤ 16
+few_spent work plan costs o spent time steps n ran count few =
     let len = ap length ran.spent_is ∙ length-map-range_with_len _ 0 work.layout.nodes in
     omega (arith, len, count, few)
 
 -- the row of a run by the clock
-pub is_row : (inputs : Inputs) (nodes budget : ℕ) (costs : Costs) (work : Work) (o : Outcome)
-    (spent : List Spent) (time : ℕ) (row : Row) → GivesRuns inputs nodes budget work
-    → IsOutcomeByClock work costs o spent time → All (λ s. clock_of s ≡ time) spent
-    → row ≡ row_from nodes o.ends spent time → IsRowOf inputs budget costs nodes row
-is_row inputs nodes budget costs work o spent time row gives ran sums is = record {
+pub is_row : (inputs : Inputs) (nodes budget : ℕ) (costs : Costs) (elf : Elf)
+    (plan : List PlanEntry) (work : Work) (o : Outcome) (spent : List Spent) (time steps : ℕ)
+    (row : Row) → GivesRuns inputs nodes budget work
+    → IsAskedWork inputs nodes budget elf plan work
+    → IsOutcomeByClock work plan costs o spent time steps → All (λ s. clock_of s ≡ time) spent
+    → row ≡ row_from nodes o.ends spent time steps → IsRowOf inputs budget costs nodes row
+is_row inputs nodes budget costs elf plan work o spent time steps row gives asked ran sums is = record {
+  elf = elf;
+  plan = plan;
   work = work;
+  asked = asked;
   own = ran.own;
   outcome = o;
   is_run = gives (after work (opening_core work) (events_in ran.run)) ran.own o ran.stands ran.over
       ran.outcome;
   spent = spent;
   time = time;
+  steps = steps;
   by_clock = ran;
   sums = sums;
   row_is = is;

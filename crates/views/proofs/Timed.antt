@@ -2,6 +2,8 @@
 use Rattle.std.proofs.Common.{◌≡◌, ℕ, List, [], ◌++◌, take, drop, Option, Some, None, refl, sym, ap, ◌∙◌, subst, inl, inr, append_assoc, append-nil}
 use Rattle.std.specs.Prelude.{All, false}
 use Rattle.std.proofs.lemmas.List.{take-append-drop}
+use Rattle.elf32_read.specs.Elf.{Elf}
+use Rattle.templates.specs.declared.plans.PlanEntry.{PlanEntry}
 use Rattle.node_model.specs.Node.{Work}
 use Rattle.node_model.specs.Core.{opening_core, after}
 use Rattle.node_model.specs.Outcome.{Outcome}
@@ -18,7 +20,7 @@ use Rattle.text_output.proofs.Pieces.{fails_too, never, prefix_of, put_fails}
 use Rattle.judged_files.specs.Inputs.{Inputs}
 use Rattle.judged_files.specs.Refusals.{IsBadRunLayout, IsRunRefused}
 use Rattle.prepared_run.specs.Outcomes.{IsTextOfOutcome, text_of}
-use Rattle.prepared_run.specs.Ready.{GivesRuns}
+use Rattle.prepared_run.specs.Ready.{GivesRuns, IsAskedWork}
 use Rattle.prepared_run.proofs.Interleaving.{of_run}
 use Rattle.views.specs.Failures.{IsFailure, IsSuccess, IsTextOfTime}
 use Rattle.views.specs.Headline.{AreTold, Prints}
@@ -59,18 +61,23 @@ files_are a files i contents h told =
 -- 2. The text
 
 -- the run by the clock is of the inputs
-pub is_of_time : (inputs : Inputs) (nodes budget : ℕ) (costs : Costs) (work : Work) (o : Outcome)
-    (spent : List Spent) (time : ℕ) → GivesRuns inputs nodes budget work
-    → IsOutcomeByClock work costs o spent time → All (λ s. clock_of s ≡ time) spent
-    → IsTimeText inputs nodes budget costs (text_of o ++ time_text spent time)
-is_of_time inputs nodes budget costs work o spent time gives ran sums = record {
+pub is_of_time : (inputs : Inputs) (nodes budget : ℕ) (costs : Costs) (elf : Elf)
+    (plan : List PlanEntry) (work : Work) (o : Outcome) (spent : List Spent) (time steps : ℕ)
+    → GivesRuns inputs nodes budget work → IsAskedWork inputs nodes budget elf plan work
+    → IsOutcomeByClock work plan costs o spent time steps → All (λ s. clock_of s ≡ time) spent
+    → IsTimeText inputs nodes budget costs (text_of o ++ time_text spent steps time)
+is_of_time inputs nodes budget costs elf plan work o spent time steps gives asked ran sums = record {
+  elf = elf;
+  plan = plan;
   work = work;
+  asked = asked;
   own = ran.own;
   outcome = o;
   is_run = gives (after work (opening_core work) (events_in ran.run)) ran.own o ran.stands ran.over
       ran.outcome;
   spent = spent;
   time = time;
+  steps = steps;
   by_clock = ran;
   sums = sums;
   text_is = refl;

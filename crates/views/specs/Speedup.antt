@@ -43,27 +43,32 @@ shares_of s = record {
   idle = s.idle;
 }
 
-abbrev pub row_from : (nodes : ℕ) → List End → List Spent → (time : ℕ) → Row
-row_from nodes ends spent time = record {
+abbrev pub row_from : (nodes : ℕ) → List End → List Spent → (time steps : ℕ) → Row
+row_from nodes ends spent time steps = record {
   nodes = nodes;
   stopped = list_any is_stopped ends;
   time = time;
+  steps = steps;
   spent = shares_of (total_spent spent);
 }
 
--- THE ROW of so many nodes is that of their run by the clock: its time, and what the nodes spend
--- together, each the time of the run
+-- THE ROW of so many nodes is that of their run by the clock: its time; how many steps of the
+-- original it makes; and what the nodes spend together, each the time of the run
 pub record IsRowOf (inputs : Inputs) (budget : ℕ) (costs : Costs) (nodes : ℕ) (row : Row) : Type 0
   where
+    pub elf : Elf
+    pub plan : List PlanEntry
     pub work : Work
+    pub asked : IsAskedWork inputs nodes budget elf plan work
     pub own : List Stamped
     pub outcome : Outcome
     pub is_run : IsRunOf inputs nodes budget work own outcome
     pub spent : List Spent
     pub time : ℕ
-    pub by_clock : IsOutcomeByClock work costs outcome spent time
+    pub steps : ℕ
+    pub by_clock : IsOutcomeByClock work plan costs outcome spent time steps
     pub sums : All (λ s. clock_of s ≡ time) spent
-    pub row_is : row ≡ row_from nodes outcome.ends spent time
+    pub row_is : row ≡ row_from nodes outcome.ends spent time steps
 
 -- a row for each
 abbrev pub AreRowsOf : Inputs → (budget : ℕ) → Costs → (counts : List ℕ) → List Row → Type 0

@@ -18,7 +18,7 @@ ghost use Rattle.views.specs.SpeedupEnds.{IsSpeedupFailure, IsSpeedupRefusal, Is
 ghost use Rattle.views.specs.Time.{costs_of as asked_costs};
 
 use crate::input::{read_inputs, time_files};
-use crate::time::costs_of;
+use crate::time::run_by_clock;
 use command_line::TimeArguments;
 use dsm_io::Files;
 use elf32_read::Elf;
@@ -31,7 +31,7 @@ use run_limits::NodeCount;
 use speedup_page::{Parameters, Row, Shares, SpeedupPage, push_page};
 use std::alloc::{AllocError, Global};
 use text_output::{Failure, write_file};
-use timed_sim::{Timed, simulate_by_clock, total_spent};
+use timed_sim::{Timed, total_spent};
 
 /// Writes the page of the speed-up of the executable in a file, on 1 node up to so many, into
 /// another file.
@@ -212,7 +212,7 @@ fn row_of(
         (IsBadRunLayout (bytes_of inputs.now) nodes)) }
 {
     let prepared = prepare(alloc, elf, inputs, nodes, arguments.budget)?;
-    let timed = simulate_by_clock(alloc, &prepared.work(), &costs_of(arguments))?;
+    let timed = run_by_clock(alloc, &prepared, arguments)?;
     Ok(row_from(nodes.number(), &timed))
 }
 
@@ -221,8 +221,9 @@ fn row_from(nodes: u8, timed: &Timed) -> Row
     requires few { length timed.now.spent.items ≤ 16 }
     requires sums { All (λ s. clock_of s ≡ timed.now.time) timed.now.spent.items }
     requires most { timed.now.time ≤ 2 ^ 100 }
+    requires fewer { timed.now.steps ≤ 2 ^ 100 }
     ensures value { result ≡ model.row_from nodes (outcome_of timed.now.outcome).ends
-        timed.now.spent.items timed.now.time }
+        timed.now.spent.items timed.now.time timed.now.steps }
     ensures fits { IsFit result }
 {
     let spent = total_spent(&timed.spent);
@@ -230,6 +231,7 @@ fn row_from(nodes: u8, timed: &Timed) -> Row
         nodes,
         stopped: is_any_stopped(&timed.outcome.ends),
         time: timed.time,
+        steps: timed.steps,
         spent: Shares {
             words: spent.words,
             to_read: spent.to_read,

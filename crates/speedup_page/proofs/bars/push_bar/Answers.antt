@@ -17,5 +17,5 @@ returns c =
     (ok_behind r one two _ _ _
     (c.in_ok-push_numbered-2.ensures ∙ ap (λ n. one ++ numbered (codes "'>") n) c.from.ensures)
     (ok_behind r two three _ _ _ c.in_ok-extend_from_slice.ensures.items
-    (on_ok_weaker r (λ e. e ∙ ap (λ n. three ++ pieces_text c.args.y n spent) c.whole.ensures.value)
+    (on_ok_weaker r (λ e. e ∙ ap (λ n. three ++ pieces_text c.args.y n c.args.row.now.steps spent) c.whole.ensures.value)
     c.push_pieces.ensures)))

@@ -1,8 +1,7 @@
-use Rattle.std.proofs.Common.{ap, ◌∙◌, subst, sym}
+use Rattle.std.proofs.Common.{ap, ◌∙◌, sym}
 use Rattle.std.proofs.lemmas.Result.{err_from_is_err_and}
 use Rattle.dsm_core.specs.CoreParts.{outcome_of}
 use Rattle.command_line.specs.Views.{time_of}
-use Rattle.timed_sim.specs.Clock.{IsOutcomeByClock}
 use Rattle.judged_files.specs.Given.{bytes_of}
 use Rattle.prepared_run.specs.Ready.{work_for}
 use Rattle.views.specs.Speedup.{row_from}
@@ -18,14 +17,12 @@ returns-in_err-prepared-clause-refused c =
 pub row_from-requires-clause-few : goal.row_from-requires-clause-few
 row_from-requires-clause-few c =
     let a = time_of c.args.arguments.now in
-    let work = work_for c.in_ok-prepared.prepared in
+    let p = c.in_ok-prepared.prepared in
+    let work = work_for p in
     let t = c.in_ok-timed.timed in
     let o = outcome_of t.outcome in
-    let ran : IsOutcomeByClock work (costs_of a) o t.spent.items t.time =
-    subst (λ x. IsOutcomeByClock work x o t.spent.items t.time) c.costs_of.ensures.value
-    (subst (λ w. IsOutcomeByClock w c.costs_of.result o t.spent.items t.time) c.work.ensures.value
-    c.in_ok-timed.ensures.outcome) in
-    few_spent work (costs_of a) o t.spent.items t.time c.number.result ran
+    few_spent work p.rewritten.plan (costs_of a) o t.spent.items t.time t.steps c.number.result
+    c.in_ok-timed.ensures.outcome
     (c.in_ok-prepared.ensures.asked.count ∙ sym c.number.ensures.value) c.number.ensures.range.1
 
 pub returns-clause-ok : goal.returns-clause-ok
@@ -33,13 +30,11 @@ returns-clause-ok c =
     let a = time_of c.args.arguments.now in
     let inputs = bytes_of c.args.inputs.now in
     let n = c.args.nodes in
-    let work = work_for c.in_ok-prepared.prepared in
+    let p = c.in_ok-prepared.prepared in
+    let work = work_for p in
     let t = c.in_ok-timed.timed in
     let o = outcome_of t.outcome in
-    let ran : IsOutcomeByClock work (costs_of a) o t.spent.items t.time =
-    subst (λ x. IsOutcomeByClock work x o t.spent.items t.time) c.costs_of.ensures.value
-    (subst (λ w. IsOutcomeByClock w c.costs_of.result o t.spent.items t.time) c.work.ensures.value
-    c.in_ok-timed.ensures.outcome) in
-    is_row inputs n a.budget (costs_of a) work o t.spent.items t.time c.row_from.result c.in_ok-prepared.ensures.runs ran
-    c.in_ok-timed.ensures.sums
-    (c.row_from.ensures.value ∙ ap (λ k. row_from k o.ends t.spent.items t.time) c.number.ensures.value)
+    is_row inputs n a.budget (costs_of a) p.program p.rewritten.plan work o t.spent.items t.time t.steps
+    c.row_from.result c.in_ok-prepared.ensures.runs c.in_ok-prepared.ensures.asked
+    c.in_ok-timed.ensures.outcome c.in_ok-timed.ensures.sums
+    (c.row_from.ensures.value ∙ ap (λ k. row_from k o.ends t.spent.items t.time t.steps) c.number.ensures.value)

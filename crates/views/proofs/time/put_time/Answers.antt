@@ -1,10 +1,9 @@
-use Rattle.std.proofs.Common.{◌++◌, inl, subst}
+use Rattle.std.proofs.Common.{◌++◌, inl}
 use Rattle.std.proofs.lemmas.Result.{err_from_is_err_and}
 use Rattle.dsm_core.specs.CoreParts.{outcome_of}
 use Rattle.command_line.specs.Views.{time_of}
 use Rattle.dsm_io.specs.Causes.{Appends}
 use Rattle.dsm_io.specs.States.{SinkState}
-use Rattle.timed_sim.specs.Clock.{IsOutcomeByClock}
 use Rattle.text_output.specs.Failures.{FailsAs, IsLike, IsNever, Puts}
 use Rattle.text_output.proofs.Pieces.{never, refused_first}
 use Rattle.judged_files.specs.Executables.{IsUnread}
@@ -45,16 +44,14 @@ returns-clause-ok g c =
     let inputs = bytes_of c.args.inputs.now in
     let before : SinkState = g.O.Sink.state c.args.out.now in
     let now : SinkState = g.O.Sink.state c.put_timed.new.out in
-    let work = work_for c.in_ok-prepared.prepared in
+    let p = c.in_ok-prepared.prepared in
+    let work = work_for p in
     let t = c.in_ok-timed.timed in
     let o = outcome_of t.outcome in
-    let text = text_of o ++ time_text t.spent.items t.time in
-    let ran : IsOutcomeByClock work (costs_of a) o t.spent.items t.time =
-    subst (λ x. IsOutcomeByClock work x o t.spent.items t.time) c.costs_of.ensures.value
-    (subst (λ w. IsOutcomeByClock w c.costs_of.result o t.spent.items t.time) c.work.ensures.value
-    c.in_ok-timed.ensures.outcome) in
+    let text = text_of o ++ time_text t.spent.items t.steps t.time in
     let is : IsTimeText inputs a.nodes a.budget (costs_of a) text =
-    is_of_time inputs a.nodes a.budget (costs_of a) work o t.spent.items t.time c.in_ok-prepared.ensures.runs ran
+    is_of_time inputs a.nodes a.budget (costs_of a) p.program p.rewritten.plan work o t.spent.items t.time t.steps
+    c.in_ok-prepared.ensures.runs c.in_ok-prepared.ensures.asked c.in_ok-timed.ensures.outcome
     c.in_ok-timed.ensures.sums in
     on_ok_as (Appends before.taken now.taken text) (Puts (IsTextOfTime inputs a) 0 before now) c.put_timed.result
     (time_puts inputs a text before now is) c.put_timed.ensures.ok
@@ -65,16 +62,14 @@ returns-clause-failure g c =
     let inputs = bytes_of c.args.inputs.now in
     let before : SinkState = g.O.Sink.state c.args.out.now in
     let now : SinkState = g.O.Sink.state c.put_timed.new.out in
-    let work = work_for c.in_ok-prepared.prepared in
+    let p = c.in_ok-prepared.prepared in
+    let work = work_for p in
     let t = c.in_ok-timed.timed in
     let o = outcome_of t.outcome in
-    let text = text_of o ++ time_text t.spent.items t.time in
-    let ran : IsOutcomeByClock work (costs_of a) o t.spent.items t.time =
-    subst (λ x. IsOutcomeByClock work x o t.spent.items t.time) c.costs_of.ensures.value
-    (subst (λ w. IsOutcomeByClock w c.costs_of.result o t.spent.items t.time) c.work.ensures.value
-    c.in_ok-timed.ensures.outcome) in
+    let text = text_of o ++ time_text t.spent.items t.steps t.time in
     let is : IsTimeText inputs a.nodes a.budget (costs_of a) text =
-    is_of_time inputs a.nodes a.budget (costs_of a) work o t.spent.items t.time c.in_ok-prepared.ensures.runs ran
+    is_of_time inputs a.nodes a.budget (costs_of a) p.program p.rewritten.plan work o t.spent.items t.time t.steps
+    c.in_ok-prepared.ensures.runs c.in_ok-prepared.ensures.asked c.in_ok-timed.ensures.outcome
     c.in_ok-timed.ensures.sums in
     err_as (FailsAs (IsLike text) IsNever IsNever before now)
     (FailsAs (IsTextOfTime inputs a) (IsRunRefused inputs) (IsBadRunLayout inputs a.nodes) before now)

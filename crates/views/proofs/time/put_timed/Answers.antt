@@ -31,7 +31,7 @@ returns-in_err-put_outcome-clause-failure g c =
     ∙ ap (λ x. of o.output o.ends x) c.deref-4.ensures.value in
     let p = err_from_is_err_and c.from_residual-in_err-put_outcome.result
     c.from_residual-in_err-put_outcome.ensures.1 in
-    rw (p.1, p.2) (outcome_unput o (time_text t.spent.items t.time) start now c.in_err-put_outcome.field-0.0
+    rw (p.1, p.2) (outcome_unput o (time_text t.spent.items t.steps t.time) start now c.in_err-put_outcome.field-0.0
     (subst (λ x. FailsAs (IsTextOfOutcome x) IsNever IsNever start now c.in_err-put_outcome.field-0.0) same
     c.in_err-put_outcome.ensures.failure))
 
@@ -52,10 +52,10 @@ returns-in_err-put-clause-failure g c =
     c.in_ok-put_outcome.ensures.ok.1.0 ∙ ap text_of same in
     let first : Appends start.taken before.taken (text_of o) =
     subst (Appends start.taken before.taken) text c.in_ok-put_outcome.ensures.ok.2 in
-    let lines : c.deref-5.result.now ≡ time_text t.spent.items t.time = c.deref-5.ensures.value
-    ∙ c.in_ok-lines.ensures ∙ ap (λ x. time_text x t.time) c.deref.ensures.value in
+    let lines : c.deref-5.result.now ≡ time_text t.spent.items t.steps t.time = c.deref-5.ensures.value
+    ∙ c.in_ok-lines.ensures ∙ ap (λ x. time_text x t.steps t.time) c.deref.ensures.value in
     let p = err_from_is_err_and c.from_residual-in_err-put.result c.from_residual-in_err-put.ensures.1 in
-    rw (p.1, p.2) (times_unput (text_of o) (time_text t.spent.items t.time) start before now
+    rw (p.1, p.2) (times_unput (text_of o) (time_text t.spent.items t.steps t.time) start before now
     c.in_err-put.field-0.0 first c.in_ok-put_outcome.ensures.faults
     (subst (λ x. IsPutFailure before now x c.in_err-put.field-0.0) lines c.in_err-put.ensures.failure))
 
@@ -76,7 +76,7 @@ returns-clause-ok g c =
     c.in_ok-put_outcome.ensures.ok.1.0 ∙ ap text_of same in
     let first : Appends start.taken before.taken (text_of o) =
     subst (Appends start.taken before.taken) text c.in_ok-put_outcome.ensures.ok.2 in
-    let lines : c.deref-5.result.now ≡ time_text t.spent.items t.time = c.deref-5.ensures.value
-    ∙ c.in_ok-lines.ensures ∙ ap (λ x. time_text x t.time) c.deref.ensures.value in
-    joins start.taken before.taken now.taken (text_of o) (time_text t.spent.items t.time) first
+    let lines : c.deref-5.result.now ≡ time_text t.spent.items t.steps t.time = c.deref-5.ensures.value
+    ∙ c.in_ok-lines.ensures ∙ ap (λ x. time_text x t.steps t.time) c.deref.ensures.value in
+    joins start.taken before.taken now.taken (text_of o) (time_text t.spent.items t.steps t.time) first
     (subst (Appends before.taken now.taken) lines c.in_ok-put.ensures.ok)

@@ -1,14 +1,19 @@
 -- The next event is allowed. What was seen of it is what its times go by.
-use Rattle.std.proofs.Common.{◌≡◌, ◌<◌, ◌^◌, sym, ap, ◌∙◌, subst}
+use Rattle.std.proofs.Common.{◌≡◌, ◌+◌, ◌<◌, ◌^◌, [], ◌∷◌, sym, ap, ◌∙◌, subst}
 use Rattle.std.proofs.lemmas.Result.{on_ok_weaker}
 use Rattle.block_layout.specs.Layout.{Shape}
 use Rattle.dsm_core.specs.node_machine.Wanted.{wanted_in}
 use Rattle.dsm_core.specs.node_model.Node.{Work, standing_of}
+use Rattle.dsm_core.specs.node_model.Core.{AreAlike, event_step}
+use Rattle.dsm_core.specs.run_order.OwnRun.{node_of}
 use Rattle.dsm_core.specs.CoreParts.{work_of, core_of, event_of}
+use Rattle.dsm_core.specs.Seen.{byte_at}
+use Rattle.run_trace.specs.Steps.{steps_made}
 use Rattle.timed_sim.specs.declared.run.TimedRun.{TimedRun}
-use Rattle.timed_sim.specs.Stored.{AreClocks, AreInStep, IsBelow, due_of, times_in}
+use Rattle.timed_sim.specs.Counted.{IsSightAt}
+use Rattle.timed_sim.specs.Stored.{AreClocks, AreInStep, IsBelow, due_of, plan_in, times_in}
 use Rattle.timed_sim.proofs.Next.{next_is}
-use Rattle.timed_sim.proofs.Made.{made_here, made_in_step, may_below}
+use Rattle.timed_sim.proofs.Made.{counts_here, made_here, made_in_step, may_below}
 use Rattle.timed_sim.proofs.Running.{both_on_ok}
 use Rattle.timed_sim.proofs.run.TimedRun.make_seen.Goals as goal
 
@@ -18,6 +23,23 @@ node-requires c =
     let is = next_is (work_of r.core) (times_in r) (core_of r.core) (due_of c.args.due)
     c.requires.ready.in_step c.requires.next in
     record { node = subst (λ k. k < r.core.layout.nodes) (sym c.node_of.ensures) is.low }
+
+pub sight_of-sight-requires : goal.sight_of-sight-requires
+sight_of-sight-requires c =
+    let r = c.args.self.now in
+    let is = next_is (work_of r.core) (times_in r) (core_of r.core) (due_of c.args.due)
+    c.requires.ready.in_step c.requires.next in
+    record { node = is.low }
+
+pub steps_of_event-steps-requires : goal.steps_of_event-steps-requires
+steps_of_event-steps-requires c =
+    let r = c.args.self.now in
+    let is = next_is (work_of r.core) (times_in r) (core_of r.core) (due_of c.args.due)
+    c.requires.ready.in_step c.requires.next in
+    record {
+      node = subst (λ (w : Work). node_of (event_of c.args.due.event) < w.layout.nodes)
+          (sym c.in_ok-seen.ensures.work) is.low;
+    }
 
 pub step_seen-requires : goal.step_seen-requires
 step_seen-requires c =
@@ -60,6 +82,7 @@ returns-clause-made c =
       costs = r.costs;
       undo_logs = r.undo_logs;
       window = r.window;
+      count = c.add.new.self;
     } in
     let seen = c.in_ok-seen.ensures in
     let stood = c.standing-standing.ensures.value
@@ -81,6 +104,7 @@ returns-clause-ready c =
       costs = r.costs;
       undo_logs = r.undo_logs;
       window = r.window;
+      count = c.add.new.self;
     } in
     let d = due_of c.args.due in
     let work = work_of r.core in
@@ -95,5 +119,31 @@ returns-clause-ready c =
           (sym c.in_ok-seen.ensures.work)
           (made_in_step r.costs work (times_in r) (times_in q) (core_of r.core) (core_of q.core) d is.may
           c.requires.ready.in_step made);
+      counts = counts_here r q c.in_ok-seen.ensures.work (λ t. (c.add.ensures.plan t).now)
+          (c.add.ensures.counts work (plan_in r) c.requires.ready.counts);
     })
     c.pass.ensures.clocks (returns-clause-made c)
+
+pub returns-clause-plan : goal.returns-clause-plan
+returns-clause-plan c =
+    let added = c.add.ensures in
+    on_ok_weaker c.pass.result (λ clocks. λ t. (added.plan t).now) c.pass.ensures.clocks
+
+pub returns-clause-steps : goal.returns-clause-steps
+returns-clause-steps c =
+    let r = c.args.self.now in
+    let core = core_of r.core in
+    let now = core_of c.step_seen.new.self in
+    let plan = plan_in r in
+    let e = event_of c.args.due.event in
+    let sight = c.sight_of-sight.result in
+    let printed = c.in_ok-seen.seen.printed in
+    let steps = c.steps_of_event-steps.result in
+    let seen = c.in_ok-seen.ensures in
+    let made = subst (λ (w : Work). IsSightAt w plan core e sight → printed ≡ byte_at w core e
+    → AreAlike w.layout.nodes now (event_step w core e) → steps ≡ steps_made w plan core (e ∷ []))
+    seen.work (c.steps_of_event-steps.ensures plan core)
+    (c.sight_of-sight.ensures plan c.requires.ready.counts) seen.seen.printed seen.event in
+    on_ok_weaker c.pass.result
+    (λ clocks. c.add.ensures.steps ∙ ap (λ k. r.count.steps + k) made)
+    c.pass.ensures.clocks
