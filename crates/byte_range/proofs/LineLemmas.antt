@@ -1,5 +1,5 @@
 -- Where lines stand among the lines of ranges, and what loads and stores there are.
-use Rattle.std.proofs.Common.{◌≡◌, ◌≢◌, ℕ, ◌+◌, ◌-◌, ◌*◌, ◌/◌, ◌%◌, ◌^◌, ◌<◌, ◌≤◌, ◌⊎◌, true, false, leb, ltb, List, [], ◌∷◌, Option, Some, None, length, get_or, refl, ap, sym, ◌∙◌, arith, inl, inr}
+use Rattle.std.proofs.Common.{◌≡◌, ◌≢◌, ℕ, ◌+◌, ◌-◌, ◌*◌, ◌/◌, ◌%◌, ◌^◌, ◌<◌, ◌≤◌, ◌⊎◌, true, false, is_some, leb, ltb, List, [], ◌∷◌, Option, Some, None, length, get_or, refl, ap, sym, ◌∙◌, arith, inl, inr}
 use Rattle.std.proofs.Math.Path.{fun_ext}
 use Rattle.std.specs.Option.{option_map}
 use Rattle.std.proofs.lemmas.List.{get_or_past}
@@ -93,6 +93,11 @@ line_byte m outside x k is = rw is (flat_byte m.bytes (64 * k + x % 64))
 pub line_byte_outside : (m : LineBytes) (outside : ℕ → ℕ) (x : ℕ) → place_of m.ranges (x / 64) ≡ None → lines_memory m outside x ≡ outside x
 unfolding lines_memory
 line_byte_outside m outside x is = rw is refl
+
+-- it is small where each byte of the list is
+pub line_small : (m : LineBytes) (outside : ℕ → ℕ) (a : ℕ) → ((k : ℕ) → memory_of (flat_range m.bytes) (λ _. 0) k < 2 ^ 8) → (place : Option ℕ) → is_some place ≡ true → place_of m.ranges (a / 64) ≡ place → lines_memory m outside a < 2 ^ 8
+line_small m outside a each None there is = absurd (cc)
+line_small m outside a each (Some k) there is = rw (line_byte m outside a k is) (each (64 * k + a % 64))
 
 -- a byte so many addresses on, in the same line
 byte_on : (m : LineBytes) (outside : ℕ → ℕ) (a k i : ℕ) → place_of m.ranges (a / 64) ≡ Some k → a % 64 + i < 64 → memory_of (flat_range m.bytes) (λ _. 0) (64 * k + a % 64 + i) ≡ lines_memory m outside (a + i)

@@ -32,6 +32,17 @@ memory_of-outside r outside a (inr high) =
     let h : ltb a (r.base + length r.bytes) ≡ false = grind (arith, nat_tests) in
     rw (l, h) refl
 
+-- each byte of a memory that is the range is small, where that outside of it is
+pub memory_of-small : (r : Range) (outside : ℕ → ℕ) (a : ℕ) → ((k : ℕ) → slice_index r.bytes k < 2 ^ 8) → outside a < 2 ^ 8 → memory_of r outside a < 2 ^ 8
+memory_of-small r outside a each low = elim (leb_tells r.base a) [
+  | inr below ↦ rw (memory_of-outside r outside a (inl below.1)) low
+  | inl from ↦
+      elim (ltb_tells a (r.base + length r.bytes)) [
+        | inl within ↦ rw (← memory_of-inside r outside a from.1 within.1) (each (a - r.base))
+        | inr past ↦ rw (memory_of-outside r outside a (inr past.1)) low
+      ]
+]
+
 -- the byte so many places on
 memory_of-more : (r : Range) (outside : ℕ → ℕ) (a k n : ℕ) → r.base ≤ a → a + n ≤ r.base + length r.bytes → k < n → slice_index r.bytes (a - r.base + k) ≡ memory_of r outside (a + k)
 memory_of-more r outside a k n low high below =

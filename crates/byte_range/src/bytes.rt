@@ -1,6 +1,6 @@
 //! Loads and stores of bytes in a slice.
 
-ghost use Rattle.std.specs.Prelude.{◌≡◌, ◌+◌, ◌^◌, ◌<◌, ◌≤◌, length, slice_index};
+ghost use Rattle.std.specs.Prelude.{◌≡◌, ◌+◌, ◌^◌, ◌<◌, ◌≤◌, ℕ, length, slice_index};
 ghost use Rattle.rv32_decode.specs.Widths.{size_of};
 ghost use Rattle.byte_range.specs.Memory.{raw, stored};
 
@@ -42,4 +42,12 @@ pub fn store_at(bytes: &mut [u8], at: usize, width: Width, value: u32)
             bytes[at + 3] = fourth;
         }
     }
+}
+
+/// What holds of each byte. A caller uses the clause; the call does nothing.
+pub fn bytes_law(bytes: &[u8])
+    ensures small { (k : ℕ) → slice_index bytes.now k < 2 ^ 8 }
+{
+    // brings: each byte fits
+    let _count = bytes.len();
 }

@@ -6,7 +6,7 @@ mod lines;
 mod range;
 mod window;
 
-pub use bytes::{load_at, store_at};
+pub use bytes::{bytes_law, load_at, store_at};
 pub use lines::{LineMemory, LineRange};
 pub use range::ByteRange;
 pub use window::{WINDOW_START, Window};

@@ -82,6 +82,14 @@ impl LineMemory {
         })
     }
 
+    /// What holds of each byte of the lines. A caller uses the clause; the call does nothing.
+    pub fn law(&self)
+        ensures small { (outside : ℕ → ℕ) (a : ℕ) → is_some (place_of self.now.ranges (a / 64)) ≡ true
+            → lines_memory self.now outside a < 2 ^ 8 }
+    {
+        self.flat.law();
+    }
+
     /// The place of a line among the lines of all ranges, from 0; `None` exactly where no range has
     /// it.
     #[inline(always)]

@@ -6,7 +6,7 @@ ghost use Rattle.rv32_decode.specs.Widths.{size_of};
 ghost use Rattle.byte_range.specs.Memory.{raw, stored};
 ghost use Rattle.byte_range.specs.Range.{holds, memory_of};
 
-use crate::bytes::{load_at, store_at};
+use crate::bytes::{bytes_law, load_at, store_at};
 use rv32_decode::Width;
 use std::alloc::{AllocError, Global};
 use std::marker::Model;
@@ -60,6 +60,15 @@ impl ByteRange {
         ensures { result ≡ record { base = base; bytes = bytes.items } }
     {
         ByteRange { base, bytes }
+    }
+
+    /// What holds of each byte of a memory that is the range. A caller uses the clause; the call does
+    /// nothing.
+    pub fn law(&self)
+        ensures small { (outside : ℕ → ℕ) (a : ℕ) → outside a < 2 ^ 8
+            → memory_of self.now outside a < 2 ^ 8 }
+    {
+        bytes_law(&self.bytes);
     }
 
     /// Whether the range has a byte for the address.

@@ -44,6 +44,13 @@ impl Window {
         })
     }
 
+    /// What holds of each byte of the window. A caller uses the clause; the call does nothing.
+    pub fn law(&self)
+        ensures small { (a : ℕ) → window_memory self.now a < 2 ^ 8 }
+    {
+        self.bytes.law();
+    }
+
     /// The little-endian number that the bytes from an address on make. `None` exactly where the
     /// address isn't in the window.
     #[inline(always)]

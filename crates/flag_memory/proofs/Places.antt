@@ -1,12 +1,12 @@
 -- Where the bytes of addresses stand among those of the shared lines, by the laws of a layout.
-use Rattle.std.proofs.Common.{Bool, ◌⊎◌, false, ◌≡◌, ℕ, ◌+◌, ◌-◌, ◌*◌, ◌/◌, ◌%◌, ◌^◌, ◌<◌, ◌≤◌, true, Option, Some, None, ap, arith, inl, inr, refl}
-use Rattle.std.specs.Prelude.{◌↔◌, IsSome}
+use Rattle.std.proofs.Common.{Bool, cond, ◌⊎◌, false, ◌≡◌, ℕ, ◌+◌, ◌-◌, ◌*◌, ◌/◌, ◌%◌, ◌^◌, ◌<◌, ◌≤◌, true, Option, Some, None, ap, arith, inl, inr, refl}
+use Rattle.std.specs.Prelude.{◌↔◌, IsSome, slice_index}
 use Rattle.std.proofs.lemmas.Bool.Decides.{eqb_tells, leb_tells, nat_tests}
 use Rattle.block_layout.specs.Layout.{Shape, IsValid, blocks, lines, first_line, start, block_of, has_line, is_shared, shared_before, shared_lines, place_of}
 use Rattle.rv32_decode.specs.declared.Width.{Width}
 use Rattle.rv32_decode.specs.declared.Width.TheVariants.{Byte, Half, Word}
 use Rattle.rv32_decode.specs.Widths.{size_of, is_aligned}
-use Rattle.flag_memory.specs.Copy.{place}
+use Rattle.flag_memory.specs.Copy.{Copy, memory, place}
 
 -- where the lines of blocks stand among the shared lines
 pub record Laws (s : Shape) : Type 0 where
@@ -124,3 +124,12 @@ place_more s a k n room below =
     let line : (a + k) / 64 ≡ a / 64 = line_more a k n room below in
     let offset : (a + k) % 64 ≡ a % 64 + k = omega arith in
     rw (line, offset) (omega arith)
+
+-- each byte of a copy's memory is small where each of its bytes is
+pub memory_small : (c : Copy) (a : ℕ) → ((k : ℕ) → slice_index c.bytes k < 2 ^ 8) → memory c a < 2 ^ 8
+unfolding memory
+memory_small c a each = go (is_shared c.layout (a / 64))
+  where
+    go : (shared : Bool) → cond shared (slice_index c.bytes (place c.layout a)) 0 < 2 ^ 8
+    go true = each (place c.layout a)
+    go false = omega arith

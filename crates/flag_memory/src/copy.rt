@@ -15,7 +15,7 @@ ghost use Rattle.flag_memory.specs.Bytes.{overwritten, IsByteWritten, IsWritten,
 use crate::first::{FirstBytes, FirstRange};
 use block_layout::{Block, Layout, layout_law};
 use buf_pool::Buf;
-use byte_range::{load_at, store_at};
+use byte_range::{bytes_law, load_at, store_at};
 use rv32_decode::Width;
 use std::alloc::{AllocError, Global};
 use std::marker::Model;
@@ -158,16 +158,18 @@ impl Copy32 {
     }
 }
 
-/// The bytes of a block are those of its addresses. A caller uses the clauses; the call does
-/// nothing.
+/// The bytes of a block are those of its addresses, and each is one. A caller uses the clauses; the
+/// call does nothing.
 pub fn copy_law(copy: &Copy32)
     ensures len { (b : ℕ) → b < blocks copy.now.layout →
         length (bytes_of copy.now b) ≡ 64 * lines copy.now.layout b }
     ensures bytes { (b k : ℕ) → b < blocks copy.now.layout → k < 64 * lines copy.now.layout b →
         slice_index (bytes_of copy.now b) k
         ≡ memory copy.now (64 * first_line copy.now.layout b + k) }
+    ensures small { (a : ℕ) → memory copy.now a < 2 ^ 8 }
 {
     layout_law();
+    bytes_law(&copy.bytes);
     // brings: the copy has 64 bytes of each shared line of a valid layout
     let _layout = &copy.layout;
 }

@@ -1,5 +1,5 @@
 -- Bytes of lines by their class.
-use Rattle.std.proofs.Common.{◌≡◌, ℕ, ◌+◌, ◌-◌, ◌/◌, ◌%◌, ◌^◌, ◌<◌, ◌≤◌, Bool, true, false, cond, leb, ltb, Option, Some, None, refl, sym, ◌∙◌, arith, inl, inr}
+use Rattle.std.proofs.Common.{◌≡◌, ℕ, ◌+◌, ◌-◌, ◌/◌, ◌%◌, ◌^◌, ◌<◌, ◌≤◌, Bool, true, false, cond, leb, ltb, Option, Some, None, refl, sym, ap, subst, ◌∙◌, arith, inl, inr}
 use Rattle.std.proofs.lemmas.Bool.Decides.{eqb_tells, nat_tests}
 use Rattle.std.specs.Prelude.{find, is_some}
 use Rattle.elf32_read.specs.Elf.{Elf, Segment}
@@ -8,12 +8,12 @@ use Rattle.rv32_decode.specs.declared.Width.TheVariants.{Byte, Half, Word}
 use Rattle.rv32_decode.specs.Widths.{is_aligned}
 use Rattle.exec_map.specs.rv32_program.declared.Class.{Class}
 use Rattle.exec_map.specs.rv32_program.declared.Class.TheVariants.{Shared, ReadOnly, Private, Unmapped}
-use Rattle.exec_map.specs.Contents.{class_of_line, is_private, is_read_only, segment_class, is_writable, touches}
+use Rattle.exec_map.specs.Contents.{class_of_line, first_byte, is_private, is_read_only, segment_class, is_writable, touches}
 use Rattle.node_memory.specs.Shelf.{HasFixed}
 use Rattle.exec_map.specs.byte_range.Memory.{raw}
 use Rattle.exec_map.specs.byte_range.Window.{is_in_window}
 use Rattle.node_model.specs.rv32_step.Memory.{byte_by}
-use Rattle.exec_map.specs.byte_range.Lines.{LineBytes, place_of}
+use Rattle.exec_map.specs.byte_range.Lines.{LineBytes, lines_memory, place_of}
 use Rattle.node_model.specs.Node.{Memory, Spill, region_of}
 
 -- an aligned access stays in one line
@@ -98,6 +98,13 @@ read_only_tells Unmapped e = cc
 -- a line that has a place is read-only, and one that has none isn't
 pub fixed_place : (e : Elf) (m : LineBytes) (line : ℕ) → HasFixed e m → is_some (place_of m.ranges line) ≡ true → class_of_line e line ≡ ReadOnly
 fixed_place e m line fixed there = read_only_tells (class_of_line e line) (sym (fixed.lines line) ∙ there)
+
+-- each byte of a read-only line is small where each of the bytes that are kept of these lines is
+pub fixed_small : (e : Elf) (m : LineBytes) (a : ℕ) → HasFixed e m
+    → ((outside : ℕ → ℕ) (x : ℕ) → is_some (place_of m.ranges (x / 64)) ≡ true → lines_memory m outside x < 2 ^ 8)
+    → class_of_line e (a / 64) ≡ ReadOnly → first_byte e a < 2 ^ 8
+fixed_small e m a fixed small is =
+    subst (λ (f : ℕ → ℕ). f a < 2 ^ 8) fixed.bytes (small (first_byte e) a (fixed.lines (a / 64) ∙ ap is_read_only is))
 
 -- the lines of the window are private, and no others
 pub private_line : (e : Elf) (line : ℕ) → is_private line ≡ true → class_of_line e line ≡ Private

@@ -1,5 +1,5 @@
 -- Loads and stores of the copy, by what a node stores.
-use Rattle.std.proofs.Common.{◌≡◌, ℕ, ◌+◌, ◌-◌, ◌*◌, ◌/◌, ◌%◌, ◌^◌, ◌<◌, ◌≤◌, ◌&&◌, Bool, true, false, cond, leb, ltb, Option, Some, None, refl, sym, ap, ◌∙◌, inl, inr, arith}
+use Rattle.std.proofs.Common.{◌≡◌, ℕ, ◌+◌, ◌-◌, ◌*◌, ◌/◌, ◌%◌, ◌^◌, ◌<◌, ◌≤◌, ◌&&◌, ◌==◌, Bool, true, false, cond, leb, ltb, Option, Some, None, refl, sym, ap, ◌∙◌, inl, inr, arith}
 use Rattle.std.proofs.Math.Path.{fun_ext}
 use Rattle.std.proofs.lemmas.Bool.Decides.{nat_tests}
 use Rattle.std.proofs.lemmas.Bool.{cases_lt}
@@ -28,6 +28,19 @@ copy_shared c a s = ap (λ (t : Bool). cond t (memory c a) (flag_byte a)) s
 pub copy_outside : (c : Copy) (a : ℕ) → is_shared c.layout (a / 64) ≡ false → copy_of c a ≡ flag_byte a
 unfolding copy_of
 copy_outside c a s = ap (λ (t : Bool). cond t (memory c a) (flag_byte a)) s
+
+-- each byte of the copy by address is small where that of its memory is
+pub copy_small : (c : Copy) (a : ℕ) → memory c a < 2 ^ 8 → copy_of c a < 2 ^ 8
+unfolding copy_of
+copy_small c a small = go (is_shared c.layout (a / 64))
+  where
+    flag : (b : Bool) → cond b 3 255 < 2 ^ 8
+    flag true = omega arith
+    flag false = omega arith
+
+    go : (shared : Bool) → cond shared (memory c a) (flag_byte a) < 2 ^ 8
+    go true = small
+    go false = flag (a % 4 == 0)
 
 is_shared_tells : (k : Class) → is_shared_class k ≡ true → k ≡ class.Shared
 is_shared_tells class.Shared e = refl

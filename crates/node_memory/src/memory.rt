@@ -111,6 +111,16 @@ impl<'a> NodeMemory<'a> {
         copy_law(&self.copy);
     }
 
+    /// What holds of each byte that words load. A caller uses the clauses; the call does nothing.
+    pub fn bytes_law(&self)
+        ensures shared { (a : ℕ) → (local_of self.now).copy a < 2 ^ 8 }
+        ensures fixed { (a : ℕ) → class_at (program_of self.now.program) a ≡ ReadOnly
+            → first_byte self.now.program a < 2 ^ 8 }
+    {
+        copy_law(&self.copy);
+        self.fixed.law();
+    }
+
     /// The address that the processor has reserved.
     pub fn reserved(&self) -> Option<u32>
         ensures { result ≡ (local_of self.now).reservation }

@@ -2,14 +2,14 @@
 use Rattle.std.proofs.Common.{◌≡◌, ℕ, zero, suc, ◌+◌, ◌-◌, ◌^◌, ◌<◌, ◌≤◌, Bool, true, List, [], ◌∷◌, ◌++◌, Option, Some, None, length, refl, sym, ap, ◌∙◌, subst, arith}
 use Rattle.node_memory.specs.exec_map.Contents.{program_of}
 use Rattle.node_memory.specs.jump_map.Image.{Cell, address_of_word, most_words}
-use Rattle.node_memory.specs.node_model.Node.{Node, Work, Phase, can_execute, next_outcome, word_outcome}
+use Rattle.node_memory.specs.node_model.Node.{Node, Work, Phase, can_execute, next_outcome}
 use Rattle.node_memory.specs.Shelf.{Ground, ground_of, local_of}
 use Rattle.node_words.specs.declared.exec_state.ExecState.{ExecState}
 use Rattle.node_words.specs.declared.strides.Going.{Going}
 use Rattle.node_words.specs.Address.{word_address}
 use Rattle.node_words.specs.GoingOn.{GoesFurther, node_on, phase_on}
 use Rattle.node_words.specs.Kept.{Follows, lane_of}
-use Rattle.node_words.specs.Runs.{AreWordsOf, GoesOnBy, LooksAtMost, numbers_from, reads_other}
+use Rattle.node_words.specs.Runs.{AreWordsOf, GoesOnBy, LooksAtMost, numbers_from}
 use Rattle.node_words.specs.Strides.{BodyHasWords, StridesBy, Trail, numbers_by, straight}
 use Rattle.node_words.proofs.ReachLemmas.{are_both}
 use Rattle.node_words.proofs.WordLemmas.{body_starts, goes_both, goes_one, still_may}

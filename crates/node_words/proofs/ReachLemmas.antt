@@ -1,6 +1,6 @@
 -- Words of an image, one after another, whatever body a node has between them.
 use Rattle.std.proofs.lemmas.Option.{slice_get_within}
-use Rattle.std.proofs.Common.{◌≡◌, ◌≢◌, ℕ, zero, suc, ◌+◌, ◌<◌, ◌≤◌, Bool, true, List, [], ◌∷◌, ◌++◌, length, Option, Some, None, refl, sym, ap, ◌∙◌, subst, arith}
+use Rattle.std.proofs.Common.{◌≡◌, ◌≢◌, ℕ, zero, suc, ◌+◌, ◌<◌, ◌≤◌, Bool, true, List, [], ◌∷◌, ◌++◌, length, Option, Some, None, sym, ap, ◌∙◌, subst, arith}
 use Rattle.node_memory.specs.exec_map.Contents.{program_of}
 use Rattle.rv32_program.specs.Program.{Program}
 use Rattle.node_memory.specs.rv32_step.declared.Demand.{Demand}
@@ -21,9 +21,7 @@ use Rattle.node_memory.specs.node_model.Node.{ProcessorState, NodeMemory, Node, 
 use Rattle.node_memory.specs.node_model.Turns.{Turn, after_word, after_wants, each_block_once, is_ended, silent, want_all, wants_of, with_byes, word_turn}
 use Rattle.node_words.specs.declared.exec_state.ExecState.{ExecState}
 use Rattle.node_words.specs.Address.{word_address}
-use Rattle.node_memory.specs.Shelf.{Ground, ground_of, local_of}
-use Rattle.node_words.specs.Kept.{lane_of}
-use Rattle.node_words.specs.GoingOn.{GoesFurther, node_on, phase_on}
+use Rattle.node_words.specs.GoingOn.{phase_on}
 use Rattle.node_words.specs.Runs.{AreWordsOf, GoesOnBy, LooksAtMost, numbers_from, reads_other}
 use Rattle.node_words.proofs.StepLemmas.{far_is, fetch_word}
 use Rattle.node_words.proofs.WordLemmas.{runs_on, still_may}

@@ -30,7 +30,7 @@ use Rattle.node_memory.specs.rv32_step.Registers.{put, registers_of}
 use Rattle.node_memory.specs.jump_map.Image.{address_of_word}
 use Rattle.node_memory.specs.jump_map.Maps.{new_of, begins_at}
 use Rattle.node_memory.specs.rv32_step.OneMemory.{Exchanges, next_pc}
-use Rattle.std.proofs.Common.{◌-◌, [], ◌∷◌, leb, length, zero, suc}
+use Rattle.std.proofs.Common.{◌-◌, [], leb, length, zero}
 use Rattle.std.specs.Prelude.{slice_get}
 use Rattle.rv32_decode.specs.Fields.{unsigned}
 use Rattle.node_memory.specs.rv32_step.declared.Demand.{Demand}

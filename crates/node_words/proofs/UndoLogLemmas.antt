@@ -1,5 +1,5 @@
 -- Bytes that stores overwrite, and what puts them back.
-use Rattle.std.proofs.Common.{◌≡◌, ℕ, zero, suc, ◌+◌, ◌-◌, ◌*◌, ◌/◌, ◌%◌, ◌^◌, ◌<◌, ◌≤◌, ◌&&◌, ◌++◌, Bool, true, false, cond, leb, ltb, List, [], ◌∷◌, refl, ap, sym, ◌∙◌, subst, arith}
+use Rattle.std.proofs.Common.{◌≡◌, ℕ, zero, suc, ◌+◌, ◌-◌, ◌*◌, ◌/◌, ◌%◌, ◌^◌, ◌<◌, ◌≤◌, ◌&&◌, ◌++◌, ◌==◌, Bool, true, false, cond, leb, ltb, List, [], ◌∷◌, refl, ap, sym, ◌∙◌, subst, arith}
 use Rattle.std.proofs.Math.Path.{fun_ext}
 use Rattle.std.proofs.lemmas.Bool.Decides.{nat_tests}
 use Rattle.std.specs.Prelude.{All, length}
@@ -49,6 +49,35 @@ four_bytes m a p q r s i0 b0 i1 b1 i2 b2 i3 b3 (suc zero) low = let e : (p + 256
 four_bytes m a p q r s i0 b0 i1 b1 i2 b2 i3 b3 (suc (suc zero)) low = let e : (p + 256 * q + 65536 * (r + 256 * s)) / 65536 % 256 ≡ r = omega (arith, b0, b1, b2) in e ∙ i2
 four_bytes m a p q r s i0 b0 i1 b1 i2 b2 i3 b3 (suc (suc (suc zero))) low = let e : (p + 256 * q + 65536 * (r + 256 * s)) / 16777216 % 256 ≡ s = omega (arith, b0, b1, b2, b3) in e ∙ i3
 four_bytes m a p q r s i0 b0 i1 b1 i2 b2 i3 b3 (suc (suc (suc (suc k)))) low = absurd (omega (arith, low))
+
+-- the number of small bytes has them
+pub has_bytes : (w : Width) (m : ℕ → ℕ) (a n : ℕ) → ((x : ℕ) → m x < 256) → n ≡ raw w m a → HasBytes m w a n
+unfolding raw
+has_bytes Byte m a n small is = subst (HasBytes m Byte a) (sym is) (one_byte m a (m a) refl (small a))
+has_bytes Half m a n small is =
+    subst (HasBytes m Half a) (sym is) (two_bytes m a (m a) (m (a + 1)) refl (small a) refl (small (a + 1)))
+has_bytes Word m a n small is =
+    let bytes = four_bytes m a (m a) (m (a + 1)) (m (a + 2)) (m (a + 3)) refl (small a) refl (small (a + 1)) refl (small (a + 2)) refl (small (a + 3)) in
+    let same : m a + 256 * m (a + 1) + 65536 * (m (a + 2) + 256 * m (a + 3)) ≡ n = omega (arith, is) in
+    subst (HasBytes m Word a) same bytes
+
+flag_small : (a : ℕ) → flag_byte a < 256
+flag_small a = go (a % 4 == 0)
+  where
+    go : (b : Bool) → cond b 3 255 < 256
+    go true = omega arith
+    go false = omega arith
+
+-- each byte is small that a processor and what its words see have
+pub byte_small : (program : Program) (l : ProcessorState) (n : NodeMemory) (a : ℕ) → n.copy a < 256
+    → (class_at program a ≡ ReadOnly → program.first a < 256) → l.private a < 256 → byte_at program l n a < 256
+byte_small program l n a shared fixed private = go (class_at program a) refl
+  where
+    go : (c : Class) → class_at program a ≡ c → byte_by c (n.copy a) (program.first a) (l.private a) (flag_byte a) < 256
+    go Shared is = shared
+    go ReadOnly is = fixed is
+    go Private is = private
+    go Unmapped is = flag_small a
 
 stored_at : (w : Width) (m : ℕ → ℕ) (a value x : ℕ) → stored w m a value x
     ≡ cond (leb a x && ltb x (a + size_of w)) (value / 2 ^ (8 * (x - a)) % 2 ^ 8) (m x)

@@ -1,6 +1,6 @@
 //! What stores overwrite, where that is noted.
 
-ghost use Rattle.std.specs.Prelude.{◌≡◌, ◌+◌, ◌*◌, ◌^◌, ◌<◌, ℕ, true, false};
+ghost use Rattle.std.specs.Prelude.{◌≡◌, ℕ, true, false};
 ghost use Rattle.rv32_decode.specs.Widths.{is_aligned};
 ghost use Rattle.node_memory.specs.exec_map.Contents.{program_of};
 ghost use Rattle.node_memory.specs.node_model.Node as model;
@@ -97,32 +97,14 @@ fn old_bytes(lane: &ProcessorState, local: &NodeMemory<'_>, width: Width, addres
     ensures { (at : ℕ) → HasBytes (model.byte_at (program_of local.now.program)
         (lane_of lane.now at) (local_of local.now)) width address result }
 {
-    match width {
-        Width::Byte => old_byte(lane, local, address),
-        Width::Half => {
-            old_byte(lane, local, address) + 0x100 * old_byte(lane, local, address + 1)
-        }
-        Width::Word => {
-            let low = old_byte(lane, local, address) + 0x100 * old_byte(lane, local, address + 1);
-            let high = old_byte(lane, local, address + 2)
-                + 0x100 * old_byte(lane, local, address + 3);
-            low + 0x1_0000 * high
-        }
+    // brings: each byte is one
+    local.bytes_law();
+    lane.private.law();
+    if let Some(value) = local.load_near(width, address) {
+        return value;
     }
-}
-
-/// The byte of an address.
-#[inline(always)]
-fn old_byte(lane: &ProcessorState, local: &NodeMemory<'_>, address: u32) -> u32
-    ensures value { (at : ℕ) → result ≡ model.byte_at (program_of local.now.program)
-        (lane_of lane.now at) (local_of local.now) address }
-    ensures small { result < 2 ^ 8 }
-{
-    if let Some(byte) = local.load_near(Width::Byte, address) {
-        return byte;
+    if let Some(value) = lane.private.load(width, address) {
+        return value;
     }
-    if let Some(byte) = lane.private.load(Width::Byte, address) {
-        return byte;
-    }
-    memory_of(lane, local, Width::Byte, address)
+    memory_of(lane, local, width, address)
 }

@@ -1,4 +1,4 @@
-use Rattle.std.proofs.Common.{rules, Fits, w64, ◌≡◌, ◌+◌, ◌*◌, ap, ◌∙◌, refl, arith}
+use Rattle.std.proofs.Common.{◌≡◌, ◌+◌, ap, ◌∙◌, refl, arith}
 use Rattle.std.specs.Prelude.{slice_index_or}
 use Rattle.node_memory.specs.rv32_step.Registers.{registers_of}
 use Rattle.node_memory.specs.micro_op.declared.micro_op.MicroOp.{MicroOp}

@@ -1,4 +1,4 @@
-use Rattle.std.proofs.Common.{rules, ◌≡◌, ℕ, ◌+◌, ◌/◌, ◌<◌, ◌^◌, sym, ap, ◌∙◌, subst, refl}
+use Rattle.std.proofs.Common.{◌≡◌, ℕ, ◌+◌, ◌/◌, ◌<◌, ◌^◌, sym, ap, ◌∙◌, subst, refl}
 use Rattle.std.specs.Prelude.{bit_and, bit_or}
 use Rattle.node_memory.specs.rv32_step.Registers.{registers_of}
 use Rattle.node_memory.specs.micro_op.declared.micro_op.MicroOp.{MicroOp}

@@ -1,4 +1,4 @@
-use Rattle.std.proofs.Common.{rules, Fits, w64, ◌+◌, ◌*◌, refl, arith}
+use Rattle.std.proofs.Common.{◌+◌, ◌*◌, refl, arith}
 use Rattle.node_memory.specs.jump_map.Strides.{skip}
 use Rattle.node_words.proofs.ReachLemmas.{Code, code_of}
 use Rattle.node_words.specs.Strides.{checked}
