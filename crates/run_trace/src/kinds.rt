@@ -49,9 +49,9 @@ impl CommitKinds {
             (λ visits. visits_of visits ≡ map first_visits self.now.kinds.items) }
         ensures micros { IfOk result (AreVisitsIn image.now) }
     {
-        let mut visits = Visits::with_room(alloc, self.kinds.len())?;
+        let mut visits = Visits::of(alloc, image)?;
         for kind in &self.kinds {
-            visits.push(image, asks(*kind))?;
+            visits.push(asks(*kind))?;
         }
         Ok(visits)
     }
@@ -61,9 +61,9 @@ impl CommitKinds {
         ensures value { IfOk result (λ tallies. AreTalliesOf self.now (tallies_of tallies)) }
         ensures table { IfOk result (AreTalliesIn image.now) }
     {
-        let mut tallies = Tallies::with_room(alloc, self.kinds.len())?;
+        let mut tallies = Tallies::of(alloc, image)?;
         for kind in &self.kinds {
-            tallies.push(image, may_commit(*kind), asks(*kind))?;
+            tallies.push(may_commit(*kind), asks(*kind))?;
         }
         Ok(tallies)
     }

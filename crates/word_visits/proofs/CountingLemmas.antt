@@ -2,17 +2,17 @@
 use Rattle.std.proofs.Common.{◌≡◌, ℕ, ◌+◌, ◌-◌, ◌^◌, ◌<◌, ◌≤◌, Bool, true, List, length, refl, sym, ap, ◌∙◌, subst, inl, inr, arith}
 use Rattle.std.proofs.lemmas.Bool.Decides.{eqb_tells}
 use Rattle.node_words.specs.jump_map.Image.{Cell}
-use Rattle.node_words.specs.node_memory.Shelf.{ground_of}
+use Rattle.node_words.specs.node_memory.Shelf.{Shelf, ground_of}
 use Rattle.node_words.specs.declared.exec_state.ExecState.{ExecState}
 use Rattle.node_words.specs.declared.strides.Going.{Going}
 use Rattle.node_words.specs.GoingOn.{BodyGoesOn}
 use Rattle.node_words.specs.Runs.{numbers_from}
 use Rattle.node_words.specs.UndoLogs.{StaysUndoable}
 use Rattle.node_words.proofs.UndoLogLemmas.{undoable_both, undoable_same}
-use Rattle.node_words.proofs.WordLemmas.{body_starts, goes_by}
+use Rattle.node_words.proofs.WordLemmas.{body_starts, goes_by, goes_none}
 use Rattle.word_visits.specs.declared.visit.Visit.{Visit}
 use Rattle.word_visits.specs.Counting.{BodyIsCounted, PassesBy}
-use Rattle.word_visits.specs.Entries.{AreEntriesIn, AreFree, begun_in, is_ordered, looks_in, visits_in}
+use Rattle.word_visits.specs.Entries.{begun_in, is_ordered, looks_in, visits_in}
 use Rattle.word_visits.specs.Visits.{visited_all}
 use Rattle.word_visits.proofs.PassLemmas.{passed_apart, passed_counted, passed_straight}
 use Rattle.word_visits.proofs.VisitLemmas.{none_counted}
@@ -23,9 +23,8 @@ pub record HasCounted (image : List Cell) (most from : ℕ) (b0 : ExecState) (ol
   pub words : BodyGoesOn image most from b0 (most - going.left) going.at b
   pub visits : BodyIsCounted image most from b0 (most - going.left) (visits_in 0 0 old)
       (visited_all (numbers_from first (going.at - first)) (visits_in 0 0 es))
-  pub entries : (cells : List Cell) → AreEntriesIn cells old → AreEntriesIn cells es
+  pub looks : (k : ℕ) → looks_in es k ≡ looks_in old k
   pub ordered : is_ordered 0 0 behind es ≡ true
-  pub free : AreFree es
   pub begun : begun_in es + (going.at - first) ≤ begun_in old + (most - going.left)
   pub start : first ≤ going.at
   pub within : first < going.at → going.at ≤ length es
@@ -38,9 +37,9 @@ pub record HasCounted (image : List Cell) (most from : ℕ) (b0 : ExecState) (ol
 
 -- none yet
 pub counting_starts : (image : List Cell) (most from behind : ℕ) (b : ExecState) (es : List Visit) → from < 2 ^ 32
-    → is_ordered 0 0 behind es ≡ true → AreFree es
+    → is_ordered 0 0 behind es ≡ true
     → HasCounted image most from b es (record { at = from; left = most }) from b es behind
-counting_starts image most from behind b es low ordered free =
+counting_starts image most from behind b es low ordered =
     let vs = visits_in 0 0 es in
     let none : 0 ≡ most - most = omega arith in
     let here : 0 ≡ from - from = omega arith in
@@ -49,9 +48,8 @@ counting_starts image most from behind b es low ordered free =
       visits = subst (λ (n : ℕ). BodyIsCounted image most from b n vs (visited_all (numbers_from from (from - from)) vs)) none
           (subst (λ (k : ℕ). BodyIsCounted image most from b 0 vs (visited_all (numbers_from from k) vs)) here
           (none_counted image most from b vs));
-      entries = λ cells are. are;
+      looks = λ k. refl;
       ordered = ordered;
-      free = free;
       begun = omega arith;
       start = omega arith;
       within = λ some. absurd (omega (arith, some));
@@ -91,9 +89,8 @@ counting_straight image most from first behind last b0 b b' old es here to long 
           (passed_straight first last here to (visits_in 0 0 es) start some straight)
           (passed_counted image most from last here to b0 b b' es (numbers_from first (here.at - first)) (visits_in 0 0 old)
           left long h.ground h.words h.visits passes);
-      entries = h.entries;
+      looks = h.looks;
       ordered = h.ordered;
-      free = h.free;
       begun = omega (arith, begun, straight, some, left, start);
       start = omega (arith, start, straight);
       within = λ _. elim (eqb_tells last 0) [
@@ -114,11 +111,10 @@ pub counting_apart : (image : List Cell) (most from first end behind behind' las
     → b'.counts ≡ b.counts → StaysUndoable b b' → PassesBy image (looks_in es) last here b to b'
     → length es' ≡ length es
     → visits_in 0 0 es' ≡ visited_all (numbers_from first (end - first)) (visits_in 0 0 es)
-    → ((cells : List Cell) → AreEntriesIn cells es → AreEntriesIn cells es') → is_ordered 0 0 behind' es' ≡ true
-    → (AreFree es → AreFree es') → begun_in es' ≤ begun_in es + 1
+    → ((k : ℕ) → looks_in es' k ≡ looks_in es k) → is_ordered 0 0 behind' es' ≡ true → begun_in es' ≤ begun_in es + 1
     → HasCounted image most from b0 old here first b es behind
     → HasCounted image most from b0 old to (to.at - last) b' es' behind'
-counting_apart image most from first end behind behind' last b0 b b' old es es' here to long is counts undoable passes count visits entries ordered free more h =
+counting_apart image most from first end behind behind' last b0 b b' old es es' here to long is counts undoable passes count visits looks ordered more h =
     let some = passes.some in
     let left = h.left in
     let start = h.start in
@@ -130,9 +126,8 @@ counting_apart image most from first end behind behind' last b0 b b' old es es' 
           (passed_apart first last end here to (visits_in 0 0 es) (visits_in 0 0 es') start least is visits)
           (passed_counted image most from last here to b0 b b' es (numbers_from first (here.at - first)) (visits_in 0 0 old)
           left long h.ground h.words h.visits passes);
-      entries = λ cells are. entries cells (h.entries cells are);
+      looks = λ k. looks k ∙ h.looks k;
       ordered = ordered;
-      free = free h.free;
       begun = omega (arith, begun, more, some, left, start, least);
       start = omega arith;
       within = λ some_behind.
@@ -145,6 +140,38 @@ counting_apart image most from first end behind behind' last b0 b b' old es es' 
       counts = counts ∙ h.counts;
       undoable = undoable_both b0 b b' h.undoable undoable;
     }
+
+-- where nothing changed
+pub counting_still : (image : List Cell) (most from first behind : ℕ) (b0 b b' : ExecState) (old es : List Visit) (here : Going)
+    → b'.lane ≡ b.lane → b'.local ≡ b.local → b'.counts ≡ b.counts → StaysUndoable b b'
+    → HasCounted image most from b0 old here first b es behind → HasCounted image most from b0 old here first b' es behind
+counting_still image most from first behind b0 b b' old es here lane local counts undoable h = record {
+  words = (goes_none image here.at (most - here.left) b b' lane local).goes most from b0 (omega arith) h.ground h.words;
+  visits = h.visits;
+  looks = h.looks;
+  ordered = h.ordered;
+  begun = h.begun;
+  start = h.start;
+  within = h.within;
+  count = h.count;
+  left = h.left;
+  low = h.low;
+  ground = ap (λ (s : Shelf). ground_of s) local ∙ h.ground;
+  counts = counts ∙ h.counts;
+  undoable = undoable_both b0 b b' h.undoable undoable;
+}
+
+-- by other names
+pub same_counted : (image : List Cell) (most from : ℕ) (b0 : ExecState) (old : List Visit) (going going' : Going)
+    (first first' : ℕ) (b b' : ExecState) (es es' : List Visit) (behind behind' : ℕ) → going' ≡ going → first' ≡ first
+    → b' ≡ b → es' ≡ es → behind' ≡ behind → HasCounted image most from b0 old going first b es behind
+    → HasCounted image most from b0 old going' first' b' es' behind'
+same_counted image most from b0 old going going' first first' b b' es es' behind behind' to start body entries last h =
+    subst (λ (x : Going). HasCounted image most from b0 old x first' b' es' behind') (sym to)
+    (subst (λ (x : ℕ). HasCounted image most from b0 old going x b' es' behind') (sym start)
+    (subst (λ (x : ExecState). HasCounted image most from b0 old going first x es' behind') (sym body)
+    (subst (λ (x : List Visit). HasCounted image most from b0 old going first b x behind') (sym entries)
+    (subst (λ (x : ℕ). HasCounted image most from b0 old going first b es x) (sym last) h))))
 
 -- the last stretch
 

@@ -1,28 +1,22 @@
 -- Words of a body that are passed at once, or by an entry, and how they are counted.
-use Rattle.std.proofs.Common.{◌≡◌, ℕ, ◌+◌, ◌-◌, ◌^◌, ◌<◌, ◌≤◌, Bool, true, Option, Some, None, List, [], ◌∷◌, ◌++◌, length, refl, sym, ap, ◌∙◌, subst, inl, inr, arith}
+use Rattle.std.proofs.Common.{◌≡◌, ℕ, ◌+◌, ◌-◌, ◌^◌, ◌<◌, ◌≤◌, Bool, true, false, Option, Some, None, List, [], ◌∷◌, ◌++◌, length, refl, sym, ap, ◌∙◌, subst, arith}
 use Rattle.std.specs.Prelude.{IfSome}
 use Rattle.node_words.specs.exec_map.Contents.{program_of}
-use Rattle.node_words.specs.micro_op.declared.micro_op.MicroOp.{MicroOp}
-use Rattle.node_words.specs.micro_op.declared.MicroKind.{MicroKind}
-use Rattle.node_words.specs.micro_op.declared.MicroKind.TheVariants.{Slow}
-use Rattle.node_words.specs.micro_op.Micro.{meaning_of}
-use Rattle.node_words.specs.rv32_step.Registers.{registers_of}
-use Rattle.node_words.specs.jump_map.Image.{Cell, address_of_word, image_base, most_words}
+use Rattle.node_words.specs.jump_map.Image.{Cell, address_of_word, most_words}
 use Rattle.node_words.specs.node_model.Node.{Node, WordOutcome, next_outcome, word_outcome}
-use Rattle.node_words.specs.node_memory.Shelf.{Ground, Shelf, ground_of, local_of}
+use Rattle.node_words.specs.node_memory.Shelf.{Shelf, ground_of, local_of}
 use Rattle.node_words.specs.declared.exec_state.ExecState.{ExecState}
 use Rattle.node_words.specs.declared.strides.Going.{Going}
 use Rattle.node_words.specs.Address.{word_address}
 use Rattle.node_words.specs.GoingOn.{BodyGoesOn, GoesFurther, node_on, phase_on}
-use Rattle.node_words.specs.Kept.{Follows, StepsOr, StepsTo, lane_of}
+use Rattle.node_words.specs.Kept.{Follows, lane_of}
 use Rattle.node_words.specs.Runs.{AreWordsOf, LooksAtMost, numbers_from, reads_other}
-use Rattle.node_words.specs.Strides.{Stays, StridesBy, Trail}
+use Rattle.node_words.specs.Strides.{IsTried, Stays, StridesBy, Trail}
 use Rattle.word_visits.specs.declared.visit.Visit.{Visit}
 use Rattle.word_visits.specs.Counting.{BodyIsCounted, PassesBy, numbers_passed}
 use Rattle.word_visits.specs.Visits.{WordVisits, visited, visited_all, visits_at}
-use Rattle.word_visits.specs.Entries.{IsServedAt, looks_by, looks_in, visits_in}
+use Rattle.word_visits.specs.Entries.{looks_in, visits_in}
 use Rattle.node_words.proofs.ReachLemmas.{numbers_both}
-use Rattle.node_words.proofs.StepLemmas.{micro_step, slow_steps}
 use Rattle.node_words.proofs.WordLemmas.{goes_both, goes_none, goes_one}
 use Rattle.word_visits.proofs.TableLemmas.{length_visits, looks_said}
 use Rattle.word_visits.proofs.VisitLemmas.{body_counted, length_append, length_numbers, length_visited, looks_visited, visited_append}
@@ -32,53 +26,6 @@ use Rattle.word_visits.proofs.VisitLemmas.{body_counted, length_append, length_n
 abbrev pub outcome_of : List Cell → ExecState → ℕ → WordOutcome
 outcome_of image b at =
     next_outcome (program_of b.local.program) image (lane_of b.lane (word_address at)) (local_of b.local)
-
--- by the micro-op of its entry
-pub entry_steps : (image : List Cell) (op : MicroOp) (at : ℕ) (b b' : ExecState) (o : Option ℕ) → length image ≤ most_words
-    → IsServedAt image at op
-    → StepsTo image (meaning_of image_base op (registers_of b.lane.registers)) at b.lane b.local b'.lane b'.local o
-    → StepsOr image (outcome_of image b at) b.lane b.local b'.lane b'.local o
-entry_steps image op at b b' None few served steps = steps
-entry_steps image op at b b' (Some k) few served steps = elim served [
-  | inl slow ↦ absurd (slow_steps image op at k b.lane b.local b'.lane b'.local slow steps)
-  | inr is ↦ micro_step image op at b.lane b.local b'.lane b'.local (Some k) is.cell few is.there is.micro steps
-]
-
-looks_slow : (k : MicroKind) (imm : ℕ) → looks_by k imm ≡ true → k ≡ Slow
-looks_slow Slow imm looks = refl
-looks_slow k imm looks = absurd (cc)
-
--- which doesn't look
-pub entry_unlooking : (image : List Cell) (op : MicroOp) (at k : ℕ) (b b' : ExecState)
-    → StepsTo image (meaning_of image_base op (registers_of b.lane.registers)) at b.lane b.local b'.lane b'.local (Some k)
-    → looks_by op.kind op.imm ≡ true → ⊥
-entry_unlooking image op at k b b' steps looks =
-    slow_steps image op at k b.lane b.local b'.lane b'.local (looks_slow op.kind op.imm looks) steps
-
--- apart, where its micro-op changed nothing
-
-same_outcome : (image : List Cell) (at : ℕ) (b m : ExecState) → m.lane ≡ b.lane → m.local ≡ b.local
-    → outcome_of image m at ≡ outcome_of image b at
-same_outcome image at b m lane local = λ t.
-    next_outcome (program_of (local t).program) image (lane_of (lane t) (word_address at)) (local_of (local t))
-
-pub apart_steps : (image : List Cell) (at : ℕ) (b m b' : ExecState) (o : Option ℕ) → (m.lane ≡ b.lane) × (m.local ≡ b.local)
-    → StepsOr image (outcome_of image m at) m.lane m.local b'.lane b'.local o
-    → StepsOr image (outcome_of image b at) b.lane b.local b'.lane b'.local o
-apart_steps image at b m b' None same steps = (steps.0 ∙ same.0, steps.1 ∙ same.1)
-apart_steps image at b m b' (Some k) same steps =
-    subst (λ (o : WordOutcome). Follows image o (ground_of b.local) (word_address k) b'.lane b'.local)
-    (same_outcome image at b m same.0 same.1)
-    (subst (λ (g : Ground). Follows image (outcome_of image m at) g (word_address k) b'.lane b'.local)
-    (ap ground_of same.1) steps)
-
-pub apart_reads : (image : List Cell) (at : ℕ) (b m : ExecState) (o : Option ℕ) (looks : Bool)
-    → (m.lane ≡ b.lane) × (m.local ≡ b.local)
-    → IfSome o (λ _. looks ≡ true → reads_other (outcome_of image m at) ≡ true)
-    → IfSome o (λ _. looks ≡ true → reads_other (outcome_of image b at) ≡ true)
-apart_reads image at b m None looks same reads = tt
-apart_reads image at b m (Some k) looks same reads = λ is.
-    ap reads_other (sym (same_outcome image at b m same.0 same.1)) ∙ reads is
 
 pub some_has : (o : Option ℕ) (fact : Type 0) → fact → IfSome o (λ _. fact)
 some_has None fact is = tt
@@ -106,6 +53,12 @@ stride_passes image t looks behind from to b b' is look strides =
           subst (λ (q : ℕ). AreWordsOf work looks (numbers_passed q from to) (node_on n b from.at before)) (sym is)
           (strides.words work n before looks same program may room look);
     }
+
+pub tried_passes : (image : List Cell) (t : Trail) (looks : ℕ → Bool) (done : Bool) (from to : Going) (b b' : ExecState)
+    → LooksAtMost looks t.told from.at t.reach → IsTried done (StridesBy image t from b to b') from b to b'
+    → IsTried done (PassesBy image looks t.behind from b to b') from b to b'
+tried_passes image t looks true from to b b' look tried = stride_passes image t looks t.behind from to b b' refl look tried
+tried_passes image t looks false from to b b' look tried = tried
 
 -- a word by itself
 pub word_passes : (image : List Cell) (looks : ℕ → Bool) (from to : Going) (b b' : ExecState) → length image ≤ most_words
@@ -166,6 +119,19 @@ still_passes image looks behind from mid to b m b' stays passes = record {
       (subst (λ (g : Going). AreWordsOf work looks (numbers_passed behind g to) (node_on n m g.at before)) stays.place
       (passes.words work n before same own may fits));
 }
+
+-- the word from which a stride that wasn't passed would have begun
+pub one_passes : (image : List Cell) (looks : ℕ → Bool) (from mid to : Going) (next : ℕ) (b m b' : ExecState)
+    → length image ≤ most_words → from.at < length image → Stays from b mid m → to.left + 1 ≡ mid.left → to.at ≡ next
+    → to.at < 2 ^ 32 → (looks from.at ≡ true → reads_other (outcome_of image m from.at) ≡ true)
+    → Follows image (outcome_of image m from.at) (ground_of m.local) (word_address next) b'.lane b'.local
+    → PassesBy image looks 0 from b to b'
+one_passes image looks from mid to next b m b' few below stays left at low reads follows =
+    let one = subst (λ (g : Going). to.left + 1 ≡ g.left) stays.place left in
+    still_passes image looks 0 from from to b m b' (record { place = refl; lane = stays.lane; local = stays.local })
+    (word_passes image looks from to m b' few below one low reads
+    (subst (λ (k : ℕ). Follows image (outcome_of image m from.at) (ground_of m.local) (word_address k) b'.lane b'.local)
+    (sym at) follows))
 
 -- 3. How it is counted
 

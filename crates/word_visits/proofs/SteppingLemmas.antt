@@ -1,15 +1,18 @@
 -- A body whose words are tallied, from stride to stride.
-use Rattle.std.proofs.Common.{◌≡◌, ℕ, ◌+◌, ◌-◌, ◌^◌, ◌<◌, ◌≤◌, List, ◌++◌, length, refl, sym, ap, ◌∙◌, subst, inl, inr, arith}
+use Rattle.std.proofs.Common.{◌≡◌, ℕ, ◌+◌, ◌-◌, ◌^◌, ◌<◌, ◌≤◌, Bool, true, List, ◌++◌, length, refl, sym, ap, ◌∙◌, subst, inl, inr, arith}
 use Rattle.std.proofs.lemmas.Bool.Decides.{eqb_tells}
-use Rattle.node_words.specs.jump_map.Image.{Cell}
+use Rattle.node_words.specs.jump_map.Image.{Cell, most_words}
 use Rattle.node_words.specs.node_memory.Shelf.{ground_of}
 use Rattle.node_words.specs.declared.exec_state.ExecState.{ExecState}
 use Rattle.node_words.specs.declared.strides.Going.{Going}
+use Rattle.node_words.specs.Address.{word_address}
 use Rattle.node_words.specs.GoingOn.{BodyGoesOn}
-use Rattle.node_words.specs.Runs.{numbers_from}
+use Rattle.node_words.specs.Kept.{Follows}
+use Rattle.node_words.specs.Runs.{numbers_from, reads_other}
+use Rattle.node_words.specs.Strides.{Stays}
 use Rattle.node_words.specs.UndoLogs.{StaysUndoable}
 use Rattle.node_words.proofs.UndoLogLemmas.{undoable_both, undoable_same}
-use Rattle.node_words.proofs.WordLemmas.{body_starts}
+use Rattle.node_words.proofs.WordLemmas.{body_starts, goes_none}
 use Rattle.word_visits.specs.declared.visit.Visit.{Visit}
 use Rattle.word_visits.specs.Counting.{PassesBy, numbers_passed}
 use Rattle.word_visits.specs.Entries.{looks_in, visits_in}
@@ -17,7 +20,7 @@ use Rattle.word_visits.specs.Tallies.{WordTally, steps_among}
 use Rattle.word_visits.specs.TallyBodies.{BodyHasSteps}
 use Rattle.word_visits.specs.Sums.{tallies_in}
 use Rattle.word_visits.proofs.CountingLemmas.{goes_further}
-use Rattle.word_visits.proofs.PassLemmas.{numbers_join}
+use Rattle.word_visits.proofs.PassLemmas.{numbers_join, outcome_of, word_passes}
 use Rattle.word_visits.proofs.TableLemmas.{length_visits, looks_said}
 use Rattle.word_visits.proofs.TallyLemmas.{body_steps, length_tallies, looks_tallied, no_steps, steps_append}
 use Rattle.word_visits.proofs.VisitLemmas.{length_append, length_numbers}
@@ -193,3 +196,98 @@ pub stepping_ends : (image : List Cell) (most from first steps u r : ℕ) (b0 b 
 stepping_ends image most from first steps u r b0 b es ss going sum more h =
     let all : steps + steps_from es ss first going.at ≡ u = omega (arith, sum, more) in
     subst (BodyHasSteps image most from b0 (most - going.left) (tallies_by es ss)) all h.counted
+
+-- so it is with the line of the stretch: the number of the next word and how many more there may be
+pub record HasStretch (image : List Cell) (most from : ℕ) (b0 : ExecState) (es : List Visit) (ss : List ℕ) (going : Going)
+    (first line steps : ℕ) (b : ExecState) : Type 0 where
+  pub stepped : HasStepped image most from b0 es ss going first steps b
+  pub far : line ≡ going.at + going.left
+
+pub stretch_same : (image : List Cell) (most from first first' line line' steps steps' : ℕ) (b0 b b' : ExecState)
+    (es : List Visit) (ss : List ℕ) (here to : Going) → b' ≡ b → to ≡ here → first' ≡ first → line' ≡ line → steps' ≡ steps
+    → HasStretch image most from b0 es ss here first line steps b → HasStretch image most from b0 es ss to first' line' steps' b'
+stretch_same image most from first first' line line' steps steps' b0 b b' es ss here to body place start far count h =
+    subst (λ (x : ExecState). HasStretch image most from b0 es ss to first' line' steps' x) (sym body)
+    (subst (λ (x : Going). HasStretch image most from b0 es ss x first' line' steps' b) (sym place)
+    (subst (λ (x : ℕ). HasStretch image most from b0 es ss here x line' steps' b) (sym start)
+    (subst (λ (x : ℕ). HasStretch image most from b0 es ss here first x steps' b) (sym far)
+    (subst (λ (x : ℕ). HasStretch image most from b0 es ss here first line x b) (sym count) h))))
+
+-- where nothing changed
+pub stretch_still : (image : List Cell) (most from first line steps : ℕ) (b0 b m : ExecState) (es : List Visit) (ss : List ℕ)
+    (here mid : Going) → Stays here b mid m → m.counts ≡ b.counts → StaysUndoable b m
+    → HasStretch image most from b0 es ss here first line steps b → HasStretch image most from b0 es ss mid first line steps m
+stretch_still image most from first line steps b0 b m es ss here mid stays counts undoable h =
+    let s = h.stepped in
+    let still : HasStretch image most from b0 es ss here first line steps m = record {
+      stepped = record {
+        words = (goes_none image here.at (most - here.left) b m stays.lane stays.local).goes most from b0 (omega arith)
+            s.ground s.words;
+        counted = s.counted;
+        few = s.few;
+        start = s.start;
+        within = s.within;
+        left = s.left;
+        low = s.low;
+        ground = ap ground_of stays.local ∙ s.ground;
+        counts = counts ∙ s.counts;
+        undoable = undoable_both b0 b m s.undoable undoable;
+      };
+      far = h.far;
+    } in
+    subst (λ (x : Going). HasStretch image most from b0 es ss x first line steps m) (sym stays.place) still
+
+-- where the words of a stride stand one after another
+pub stretch_straight : (image : List Cell) (most from first line steps last : ℕ) (b0 b b' : ExecState) (es : List Visit)
+    (ss : List ℕ) (here to : Going) → length image ≤ length es → length ss ≡ length es + 1 → to.at + to.left ≡ line
+    → b'.counts ≡ b.counts → StaysUndoable b b' → PassesBy image (looks_in es) last here b to b'
+    → HasStretch image most from b0 es ss here first line steps b → HasStretch image most from b0 es ss to first line steps b'
+stretch_straight image most from first line steps last b0 b b' es ss here to long count far counts undoable passes h =
+    let some = passes.some in
+    let before = h.far in
+    record {
+      stepped = stepping_straight image most from first steps last b0 b b' es ss here to long count
+          (omega (arith, some, before, far)) counts undoable passes h.stepped;
+      far = sym far;
+    }
+
+-- where the last few stand behind a jump, or the next word does
+pub stretch_apart : (image : List Cell) (most from first line steps r last end start : ℕ) (b0 b b' : ExecState)
+    (es : List Visit) (ss : List ℕ) (here to : Going) → length image ≤ length es → length ss ≡ length es + 1
+    → end ≡ line - to.left - last → start ≡ to.at - last → b'.counts ≡ b.counts → StaysUndoable b b'
+    → PassesBy image (looks_in es) last here b to b' → r ≡ steps_from es ss first end → r ≤ end - first
+    → HasStretch image most from b0 es ss here first line steps b
+    → HasStretch image most from b0 es ss to start (to.at + to.left) (steps + r) b'
+stretch_apart image most from first line steps r last end start b0 b b' es ss here to long count is begins counts undoable passes sum most_steps h =
+    let some = passes.some in
+    let before = h.far in
+    record {
+      stepped = subst (λ (x : ℕ). HasStepped image most from b0 es ss to x (steps + r) b') (sym begins)
+          (stepping_apart image most from first end steps (steps + r) r last b0 b b' es ss here to long count
+          (omega (arith, is, before, some)) counts undoable passes sum most_steps refl h.stepped);
+      far = refl;
+    }
+
+-- a word by itself passes
+pub word_stretches : (image : List Cell) (looks : ℕ → Bool) (next : ℕ) (here mid to : Going) (b m b' : ExecState)
+    → length image ≤ most_words → here.at < length image → Stays here b mid m → to.left + 1 ≡ mid.left → to.at ≡ next
+    → to.at < 2 ^ 32 → (looks here.at ≡ true → reads_other (outcome_of image m here.at) ≡ true)
+    → Follows image (outcome_of image m here.at) (ground_of m.local) (word_address next) b'.lane b'.local
+    → PassesBy image looks 0 mid m to b'
+word_stretches image looks next here mid to b m b' few within stays one at low reads follows =
+    let place : mid.at ≡ here.at = ap (λ (g : Going). g.at) stays.place in
+    word_passes image looks mid to m b' few (omega (arith, place, within)) one low
+    (subst (λ (k : ℕ). looks k ≡ true → reads_other (outcome_of image m k) ≡ true) (sym place) reads)
+    (subst (λ (k : ℕ). Follows image (outcome_of image m mid.at) (ground_of m.local) (word_address k) b'.lane b'.local) (sym at)
+    (subst (λ (k : ℕ). Follows image (outcome_of image m k) (ground_of m.local) (word_address next) b'.lane b'.local) (sym place)
+    follows))
+
+-- the last stretch
+pub stretch_ends : (image : List Cell) (most from first line steps r : ℕ) (b0 b : ExecState) (es : List Visit) (ss : List ℕ)
+    (going : Going) → r ≡ steps_from es ss first (line - going.left)
+    → HasStretch image most from b0 es ss going first line steps b
+    → BodyHasSteps image most from b0 (most - going.left) (tallies_by es ss) (steps + r)
+stretch_ends image most from first line steps r b0 b es ss going sum h =
+    let line_is = h.far in
+    let end : line - going.left ≡ going.at = omega (arith, line_is) in
+    stepping_ends image most from first steps (steps + r) r b0 b es ss going (sum ∙ ap (steps_from es ss first) end) refl h.stepped

@@ -1,18 +1,20 @@
 -- Entries of a table of visits, and the stretches that they count.
-use Rattle.std.proofs.Common.{◌≡◌, ℕ, zero, suc, ◌+◌, ◌-◌, ◌<◌, ◌≤◌, Bool, true, Some, List, [], ◌∷◌, ◌++◌, length, map, set, take, drop, inl, inr, refl, sym, ap, ◌∙◌, subst, arith, append_assoc, append-nil}
-use Rattle.std.specs.Prelude.{◌⊎◌, ◌&&◌, nat_le, slice_index_or}
+use Rattle.std.proofs.Common.{◌≡◌, ℕ, zero, suc, ◌+◌, ◌-◌, ◌<◌, ◌≤◌, Bool, true, Option, Some, None, List, [], ◌∷◌, ◌++◌, length, map, set, take, drop, inl, inr, refl, sym, ap, ◌∙◌, subst, arith, append_assoc, append-nil}
+use Rattle.std.specs.Prelude.{◌⊎◌, nat_le, slice_index_or}
 use Rattle.std.proofs.Math.Seq.{take-append_seam}
 use Rattle.std.proofs.lemmas.Bool.{and_from, and_parts}
 use Rattle.std.proofs.lemmas.Bool.Decides.{eqb_tells, nat_tests}
-use Rattle.std.proofs.lemmas.List.{drop_all, get_or_append_left, get_or_default, get_or_push, length_push}
-use Rattle.node_words.specs.jump_map.Image.{Cell}
+use Rattle.std.proofs.lemmas.List.{drop_all, get_or_append_left, get_or_default, get_or_push, length-set, length_push}
+use Rattle.std.proofs.lemmas.Option.{slice_get-get_or, slice_get_within}
+use Rattle.node_words.specs.jump_map.Strides.{HasStrides, IsStride}
+use Rattle.node_words.specs.micro_op.declared.micro_op.MicroOp.{MicroOp}
 use Rattle.node_words.specs.jump_map.declared.strides.StrideKind.{StrideKind}
 use Rattle.node_words.specs.jump_map.declared.strides.StrideKind.TheVariants.{Slow}
 use Rattle.node_words.specs.Trails.{trail_of}
 use Rattle.node_words.specs.Runs.{numbers_from}
 use Rattle.word_visits.specs.declared.visit.Visit.{Visit}
 use Rattle.word_visits.specs.Visits.{WordVisits, visited, visited_all, visits_at}
-use Rattle.word_visits.specs.Entries.{AreEntriesIn, AreFree, ArePartedAt, IsFree, IsServedAt, begun_in, is_ordered, looks_by, looks_in, once_begun, once_ended, slowed, visits_by, visits_in}
+use Rattle.word_visits.specs.Entries.{AreFree, ArePartedAt, AreShort, AreSlowedTo, IsFree, IsSlowedTo, begun_in, is_ordered, looks_in, once_begun, once_ended, visits_by, visits_in}
 
 -- 1. A stretch more begins at an entry, or ends before one
 
@@ -65,26 +67,7 @@ set_first es k t d x within past is =
     let count = begun_length es k in
     set_begun es k d x within is ∙ sym (ended_past (begun_at k es) t (omega (arith, past, count)))
 
--- what an entry has besides stays
-
-abbrev pub still : Visit → Visit
-still e = record e { begun = 0; ended = 0 }
-
-begun_still : (es : List Visit) (k j : ℕ) (d : Visit)
-    → still (slice_index_or (begun_at k es) j d) ≡ still (slice_index_or es j d)
-begun_still [] k j d = refl
-begun_still (e ∷ es) zero zero d = refl
-begun_still (e ∷ es) zero (suc j) d = refl
-begun_still (e ∷ es) (suc k) zero d = refl
-begun_still (e ∷ es) (suc k) (suc j) d = begun_still es k j d
-
-ended_still : (es : List Visit) (k j : ℕ) (d : Visit)
-    → still (slice_index_or (ended_at k es) j d) ≡ still (slice_index_or es j d)
-ended_still [] k j d = refl
-ended_still (e ∷ es) zero zero d = refl
-ended_still (e ∷ es) zero (suc j) d = refl
-ended_still (e ∷ es) (suc k) zero d = refl
-ended_still (e ∷ es) (suc k) (suc j) d = ended_still es k j d
+-- which words look stays
 
 begun_looks : (es : List Visit) (k j : ℕ) → looks_in (begun_at k es) j ≡ looks_in es j
 begun_looks [] k j = refl
@@ -243,7 +226,7 @@ visits_both b d b' d' [] begun ended = refl
 visits_both b d b' d' (e ∷ es) begun ended =
     let times : b' + e.begun - (d' + e.ended) ≡ b + e.begun - (d + e.ended) = omega (arith, begun, ended) in
     let rest = visits_both (b + e.begun) (d + e.ended) (b' + e.begun) (d' + e.ended) es (omega (arith, begun)) (omega (arith, ended)) in
-    λ t. record { times = times t; looks = looks_by e.op.kind e.op.imm } ∷ rest t
+    λ t. record { times = times t; looks = e.looks } ∷ rest t
 
 visits_ended : (b d b' h n : ℕ) (es : List Visit) → b' ≡ b + 1 → AreOrdered b d h es
     → visits_in b' d (ended_at n es) ≡ bumped 0 n (visits_in b d es)
@@ -252,12 +235,12 @@ visits_ended b d b' h (suc n) [] begun ordered = refl
 visits_ended b d b' h zero (e ∷ es) begun ordered =
     let times : b' + e.begun - (d + (e.ended + 1)) ≡ b + e.begun - (d + e.ended) = omega (arith, begun) in
     let rest = visits_both (b + e.begun) (d + e.ended) (b' + e.begun) (d + (e.ended + 1)) es (omega (arith, begun)) (omega arith) in
-    λ t. record { times = times t; looks = looks_by e.op.kind e.op.imm } ∷ rest t
+    λ t. record { times = times t; looks = e.looks } ∷ rest t
 visits_ended b d b' h (suc n) (e ∷ es) begun ordered =
     let here = ordered.0 in
     let times : b' + e.begun - (d + e.ended) ≡ b + e.begun - (d + e.ended) + 1 = omega (arith, begun, here) in
     let rest = visits_ended (b + e.begun) (d + e.ended) (b' + e.begun) h n es (omega (arith, begun)) ordered.1 in
-    λ t. record { times = times t; looks = looks_by e.op.kind e.op.imm } ∷ rest t
+    λ t. record { times = times t; looks = e.looks } ∷ rest t
 
 visits_stretch : (b d h k n t : ℕ) (es : List Visit) → k + n ≡ t → 0 < n → AreOrdered b d h es
     → visits_in b d (ended_at t (begun_at k es)) ≡ bumped k n (visits_in b d es)
@@ -269,7 +252,7 @@ visits_stretch b d h zero (suc n) (suc t) (e ∷ es) sum some ordered =
     let same : t ≡ n = omega (arith, sum) in
     let times : b + (e.begun + 1) - (d + e.ended) ≡ b + e.begun - (d + e.ended) + 1 = omega (arith, here) in
     let rest = visits_ended (b + e.begun) (d + e.ended) (b + (e.begun + 1)) h n es (omega arith) ordered.1 in
-    (λ i. record { times = times i; looks = looks_by e.op.kind e.op.imm }
+    (λ i. record { times = times i; looks = e.looks }
     ∷ visits_in (b + (e.begun + 1)) (d + e.ended) (ended_at (same i) es))
     ∙ ap (λ (ws : List WordVisits). more (visits_by (b + e.begun) (d + e.ended) e) ∷ ws) rest
 visits_stretch b d h (suc k) n t [] sum some ordered = refl
@@ -283,7 +266,6 @@ visits_stretch b d h (suc k) n (suc t) (e ∷ es) sum some ordered =
 pub record IsStretched (first end h' : ℕ) (old new : List Visit) : Type 0 where
   pub count : length new ≡ length old
   pub visits : visits_in 0 0 new ≡ visited_all (numbers_from first (end - first)) (visits_in 0 0 old)
-  pub entry : (j : ℕ) (d : Visit) → still (slice_index_or new j d) ≡ still (slice_index_or old j d)
   pub looks : (j : ℕ) → looks_in new j ≡ looks_in old j
   pub ordered : is_ordered 0 0 h' new ≡ true
   pub begun : begun_in new ≤ begun_in old + 1
@@ -300,7 +282,6 @@ stretched first end h h' es new some within ordered ends is =
       count = omega (arith, one, two);
       visits = visits_stretch 0 0 h first (end - first) end es (omega (arith, some)) (omega (arith, some)) are
           ∙ sym (all_bumped first (end - first) (visits_in 0 0 es));
-      entry = λ j d. ended_still (begun_at first es) end j d ∙ begun_still es first j d;
       looks = λ j. ended_looks (begun_at first es) end j ∙ begun_looks es first j;
       ordered = is_of_ordered 0 0 h' (ended_at end (begun_at first es))
           (ordered_stretch 0 0 h h' first end es some (omega (arith, some, within)) ends are);
@@ -334,7 +315,7 @@ looks_said b d (e ∷ es) zero = refl
 looks_said b d (e ∷ es) (suc k) = looks_said (b + e.begun) (d + e.ended) es k
 
 pub looks_entry : (es : List Visit) (k : ℕ) (d : Visit) → k < length es
-    → looks_in es k ≡ looks_by (slice_index_or es k d).op.kind (slice_index_or es k d).op.imm
+    → looks_in es k ≡ (slice_index_or es k d).looks
 looks_entry [] k d below = absurd (omega (arith, below))
 looks_entry (e ∷ es) zero d below = refl
 looks_entry (e ∷ es) (suc k) d below = looks_entry es k d (omega (arith, below))
@@ -343,213 +324,204 @@ pub length_visits : (b d : ℕ) (es : List Visit) → length (visits_in b d es) 
 length_visits b d [] = refl
 length_visits b d (e ∷ es) = let rest = length_visits (b + e.begun) (d + e.ended) es in omega (arith, rest)
 
--- 5. An entry whose stride is no longer counted at once
+-- 5. Strides that are slow instead
 
-abbrev pub slowed_at : ℕ → List Visit → List Visit
-slowed_at k [] = []
-slowed_at zero (e ∷ es) = slowed e ∷ es
-slowed_at (suc k) (e ∷ es) = e ∷ slowed_at k es
-
-pub set_slowed : (es : List Visit) (k : ℕ) (d x : Visit) → k < length es → x ≡ slowed (slice_index_or es k d)
-    → set es k x ≡ slowed_at k es
-set_slowed [] k d x below is = absurd (omega (arith, below))
-set_slowed (e ∷ es) zero d x below is = ap (λ (y : Visit). y ∷ es) is
-set_slowed (e ∷ es) (suc k) d x below is = ap (λ (ys : List Visit). e ∷ ys) (set_slowed es k d x (omega (arith, below)) is)
-
-pub slowed_visits : (k b d : ℕ) (es : List Visit) → visits_in b d (slowed_at k es) ≡ visits_in b d es
-slowed_visits k b d [] = refl
-slowed_visits zero b d (e ∷ es) = refl
-slowed_visits (suc k) b d (e ∷ es) =
-    ap (λ (vs : List WordVisits). visits_by (b + e.begun) (d + e.ended) e ∷ vs)
-    (slowed_visits k (b + e.begun) (d + e.ended) es)
-
-pub slowed_looks : (es : List Visit) (k j : ℕ) → looks_in (slowed_at k es) j ≡ looks_in es j
-slowed_looks [] k j = refl
-slowed_looks (e ∷ es) zero zero = refl
-slowed_looks (e ∷ es) zero (suc j) = refl
-slowed_looks (e ∷ es) (suc k) zero = refl
-slowed_looks (e ∷ es) (suc k) (suc j) = slowed_looks es k j
-
-pub slowed_begun : (es : List Visit) (k : ℕ) → begun_in (slowed_at k es) ≡ begun_in es
-slowed_begun [] k = refl
-slowed_begun (e ∷ es) zero = refl
-slowed_begun (e ∷ es) (suc k) = let rest = slowed_begun es k in omega (arith, rest)
-
-pub slowed_ordered : (k b d h : ℕ) (es : List Visit) → is_ordered b d h (slowed_at k es) ≡ is_ordered b d h es
-slowed_ordered k b d h [] = refl
-slowed_ordered zero b d h (e ∷ es) = refl
-slowed_ordered (suc k) b d h (e ∷ es) =
-    ap (λ (t : Bool). nat_le (d + e.ended) (b + e.begun) && t) (slowed_ordered k (b + e.begun) (d + e.ended) h es)
-
-pub slowed_length : (es : List Visit) (k : ℕ) → length (slowed_at k es) ≡ length es
-slowed_length [] k = refl
-slowed_length (e ∷ es) zero = refl
-slowed_length (e ∷ es) (suc k) = let rest = slowed_length es k in omega (arith, rest)
-
-slowed_op : (es : List Visit) (k j : ℕ) (d : Visit) → (slice_index_or (slowed_at k es) j d).op ≡ (slice_index_or es j d).op
-slowed_op [] k j d = refl
-slowed_op (e ∷ es) zero zero d = refl
-slowed_op (e ∷ es) zero (suc j) d = refl
-slowed_op (e ∷ es) (suc k) zero d = refl
-slowed_op (e ∷ es) (suc k) (suc j) d = slowed_op es k j d
-
--- its kind is slow or what it was
-pub slowed_kind : (es : List Visit) (k j : ℕ) (d : Visit)
-    → ((slice_index_or (slowed_at k es) j d).kind ≡ Slow) ⊎ ((slice_index_or (slowed_at k es) j d).kind ≡ (slice_index_or es j d).kind)
-slowed_kind [] k j d = inr refl
-slowed_kind (e ∷ es) zero zero d = inl refl
-slowed_kind (e ∷ es) zero (suc j) d = inr refl
-slowed_kind (e ∷ es) (suc k) zero d = inr refl
-slowed_kind (e ∷ es) (suc k) (suc j) d = slowed_kind es k j d
-
-pub slowed_here : (es : List Visit) (k : ℕ) (d : Visit) → k < length es → (slice_index_or (slowed_at k es) k d).kind ≡ Slow
-slowed_here [] k d below = absurd (omega (arith, below))
-slowed_here (e ∷ es) zero d below = refl
-slowed_here (e ∷ es) (suc k) d below = slowed_here es k d (omega (arith, below))
-
--- a slow stride goes over no word
+-- a slow one goes over no word
 slow_free : (looks : ℕ → Bool) (k : ℕ) → IsFree looks k Slow
 slow_free looks k = record { short = omega arith; free = λ x low high. absurd (omega (arith, low, high)) }
 
-same_looks : (looks also : ℕ → Bool) (k : ℕ) (kind : StrideKind) → ((x : ℕ) → also x ≡ looks x) → IsFree looks k kind
-    → IsFree also k kind
-same_looks looks also k kind same free = record {
-  short = free.short;
-  free = λ x low high is. free.free x low high (sym (same x) ∙ is);
+-- the same strides are free where the same words look
+pub same_free : (looks also : ℕ → Bool) (ks : List StrideKind) → ((x : ℕ) → also x ≡ looks x) → AreFree looks ks
+    → AreFree also ks
+same_free looks also ks same free = λ k d below.
+    let old = free k d below in
+    record { short = old.short; free = λ x low high is. old.free x low high (sym (same x) ∙ is) }
+
+pub free_short : (looks : ℕ → Bool) (ks : List StrideKind) → AreFree looks ks → AreShort ks
+free_short looks ks free = λ k d below. (free k d below).short
+
+-- no word looks
+pub none_look : (ks : List StrideKind) → AreShort ks → AreFree (looks_in []) ks
+none_look ks short = λ k d below. record { short = short k d below; free = λ x low high is. absurd (cc) }
+
+pub slowed_none : (ks : List StrideKind) → AreSlowedTo ks ks
+slowed_none ks = record { count = refl; each = λ k d below. inr refl }
+
+abbrev kind_or : Option StrideKind → StrideKind
+kind_or None = Slow
+kind_or (Some kind) = kind
+
+-- they are strides still
+pub slowed_strides : (micros : List MicroOp) (old new : List StrideKind) → AreSlowedTo old new → HasStrides micros old
+    → HasStrides micros new
+slowed_strides micros old new slowed has = record {
+  each = λ k is there.
+      let below = slice_get_within new k is there in
+      let count = slowed.count in
+      let same : slice_index_or new k Slow ≡ is = ap kind_or (sym (slice_get-get_or new k Slow below) ∙ there) in
+      let s = has.each k (slice_index_or old k Slow) (slice_get-get_or old k Slow (omega (arith, below, count))) in
+      elim (slowed.each k Slow below) [
+        | inl slow ↦ subst (IsStride micros k) (sym slow ∙ same)
+            (record { micro = s.micro; there = s.there; plain = tt; whole = tt; inside = tt })
+        | inr kept ↦ subst (IsStride micros k) (sym kept ∙ same) s
+      ];
+  count = slowed.count ∙ has.count;
 }
 
-pub slowed_free : (es : List Visit) (k : ℕ) → AreFree es → AreFree (slowed_at k es)
-slowed_free es k free = λ j d below.
-    let count = slowed_length es k in
-    elim (slowed_kind es k j d) [
-      | inl is ↦ subst (IsFree (looks_in (slowed_at k es)) j) (sym is) (slow_free (looks_in (slowed_at k es)) j)
-      | inr is ↦ subst (IsFree (looks_in (slowed_at k es)) j) (sym is)
-          (same_looks (looks_in es) (looks_in (slowed_at k es)) j (slice_index_or es j d).kind (slowed_looks es k)
-          (free j d (omega (arith, below, count))))
-    ]
+-- so many strides were shortened
+pub record AreShortened (number : ℕ) (old new : List StrideKind) : Type 0 where
+  pub count : length new ≡ number
+  pub each : (k : ℕ) (d : StrideKind) → k < length new → IsSlowedTo (slice_index_or old k d) (slice_index_or new k d)
+  pub short : AreShort new
 
-pub slowed_entries : (image : List Cell) (es : List Visit) (k : ℕ) → AreEntriesIn image es → AreEntriesIn image (slowed_at k es)
-slowed_entries image es k are = λ j d below.
-    let count = slowed_length es k in
-    subst (IsServedAt image j) (sym (slowed_op es k j d)) (are j d (omega (arith, below, count)))
-
--- the last entries up to a number are parted
-pub record ArePartedBelow (number : ℕ) (old es : List Visit) : Type 0 where
-  pub count : length es ≡ length old
-  pub visits : (begun ended : ℕ) → visits_in begun ended es ≡ visits_in begun ended old
-  pub looks : (k : ℕ) → looks_in es k ≡ looks_in old k
-  pub begun : begun_in es ≡ begun_in old
-  pub ordered : (begun ended behind : ℕ) → is_ordered begun ended behind es ≡ is_ordered begun ended behind old
-  pub entries : (image : List Cell) → AreEntriesIn image old → AreEntriesIn image es
-  pub free : AreFree es
-  pub parted : (k : ℕ) (d : Visit) → length es - 22 ≤ k → k < number
-      → length es < k + (trail_of (slice_index_or es k d).kind k).reach
-      → (trail_of (slice_index_or es k d).kind k).told ≡ Some (length es)
-
-pub none_parted : (number : ℕ) (es : List Visit) → number ≤ length es - 22 → AreFree es → ArePartedBelow number es es
-none_parted number es from free = record {
+pub none_shortened : (old : List StrideKind) → AreShortened 0 old []
+none_shortened old = record {
   count = refl;
-  visits = λ begun ended. refl;
-  looks = λ k. refl;
-  begun = refl;
-  ordered = λ begun ended behind. refl;
-  entries = λ image are. are;
-  free = free;
-  parted = λ k d low high over. absurd (omega (arith, from, low, high));
+  each = λ k d below. absurd (omega (arith, below));
+  short = λ k d below. absurd (omega (arith, below));
 }
 
--- the next one goes over nothing
-pub parted_clear : (number count : ℕ) (old es : List Visit) (x : Visit) → number < length es → count ≡ length es
-    → ((at : ℕ) → count - number < (trail_of (slice_index_or es number x).kind at).reach
-    → (trail_of (slice_index_or es number x).kind at).told ≡ Some (at + (count - number)))
-    → ArePartedBelow number old es → ArePartedBelow (number + 1) old es
-parted_clear number count old es x below same_count clear are = record {
-  count = are.count;
-  visits = are.visits;
-  looks = are.looks;
-  begun = are.begun;
-  ordered = are.ordered;
-  entries = are.entries;
-  free = are.free;
-  parted = λ k d low high over. elim (eqb_tells k number) [
+pub next_shortened : (number : ℕ) (old new : List StrideKind) (kind x : StrideKind) → number < length old
+    → IsSlowedTo (slice_index_or old number x) kind → ((at : ℕ) → (trail_of kind at).reach ≤ 22)
+    → AreShortened number old new → AreShortened (number + 1) old (new ++ kind ∷ [])
+next_shortened number old new kind x inside slowed short are =
+    let sum : length (new ++ kind ∷ []) ≡ length new + 1 = length_push new kind in
+    let count = are.count in
+    let last = λ (d : StrideKind). get_or_push new kind d number count in
+    let before = λ (k : ℕ) (d : StrideKind) (within : k < length new). get_or_append_left new (kind ∷ []) d k within in
+    record {
+      count = omega (arith, sum, count);
+      each = λ k d below. elim (eqb_tells k number) [
+        | inl same ↦ subst (λ (i : ℕ). IsSlowedTo (slice_index_or old i d) (slice_index_or (new ++ kind ∷ []) i d)) (sym same.1)
+            (subst (IsSlowedTo (slice_index_or old number d)) (sym (last d))
+            (subst (λ (q : StrideKind). IsSlowedTo q kind) (get_or_default old number x d inside) slowed))
+        | inr apart ↦
+            let other = apart.1 in
+            let within : k < length new = omega (arith, below, sum, other, count) in
+            subst (IsSlowedTo (slice_index_or old k d)) (sym (before k d within)) (are.each k d within)
+      ];
+      short = λ k d below. elim (eqb_tells k number) [
+        | inl same ↦ subst (λ (i : ℕ). (trail_of (slice_index_or (new ++ kind ∷ []) i d) i).reach ≤ 22) (sym same.1)
+            (subst (λ (q : StrideKind). (trail_of q number).reach ≤ 22) (sym (last d)) (short number))
+        | inr apart ↦
+            let other = apart.1 in
+            let within : k < length new = omega (arith, below, sum, other, count) in
+            subst (λ (q : StrideKind). (trail_of q k).reach ≤ 22) (sym (before k d within)) (are.short k d within)
+      ];
+    }
+
+pub all_shortened : (number : ℕ) (old new : List StrideKind) → length old ≡ number → AreShortened number old new
+    → AreSlowedTo old new
+all_shortened number old new all are = record { count = are.count ∙ sym all; each = are.each }
+
+-- one of them is made slow
+
+set_slow : (ks : List StrideKind) (k j : ℕ) (d : StrideKind)
+    → (slice_index_or (set ks k Slow) j d ≡ Slow) ⊎ (slice_index_or (set ks k Slow) j d ≡ slice_index_or ks j d)
+set_slow [] k j d = inr refl
+set_slow (x ∷ ks) zero zero d = inl refl
+set_slow (x ∷ ks) zero (suc j) d = inr refl
+set_slow (x ∷ ks) (suc k) zero d = inr refl
+set_slow (x ∷ ks) (suc k) (suc j) d = set_slow ks k j d
+
+set_here : (ks : List StrideKind) (k : ℕ) (d : StrideKind) → k < length ks → slice_index_or (set ks k Slow) k d ≡ Slow
+set_here [] k d below = absurd (omega (arith, below))
+set_here (x ∷ ks) zero d below = refl
+set_here (x ∷ ks) (suc k) d below = set_here ks k d (omega (arith, below))
+
+-- of the strides up to one, none goes over the word of a number
+pub record ArePartedBelow (number at : ℕ) (old ks : List StrideKind) : Type 0 where
+  pub slowed : AreSlowedTo old ks
+  pub parted : (k : ℕ) (d : StrideKind) → number - 22 ≤ k → k < at → k ≤ number
+      → number < k + (trail_of (slice_index_or ks k d) k).reach
+      → (trail_of (slice_index_or ks k d) k).told ≡ Some number
+
+pub none_parted : (number at : ℕ) (ks : List StrideKind) → at ≤ number - 22 → ArePartedBelow number at ks ks
+none_parted number at ks from = record {
+  slowed = slowed_none ks;
+  parted = λ k d low high up over. absurd (omega (arith, from, low, high));
+}
+
+-- the next one doesn't go over it
+pub parted_clear : (number at : ℕ) (old ks : List StrideKind) (x : StrideKind) → at < length ks → at ≤ number
+    → ((j : ℕ) → number - at < (trail_of (slice_index_or ks at x) j).reach
+    → (trail_of (slice_index_or ks at x) j).told ≡ Some (j + (number - at)))
+    → ArePartedBelow number at old ks → ArePartedBelow number (at + 1) old ks
+parted_clear number at old ks x below up clear are = record {
+  slowed = are.slowed;
+  parted = λ k d low high here over. elim (eqb_tells k at) [
     | inl same ↦
-        let here = same.1 in
-        let there : number + (count - number) ≡ length es = omega (arith, below, same_count) in
-        let entry : slice_index_or es number x ≡ slice_index_or es k d =
-        get_or_default es number x d below ∙ ap (λ (i : ℕ). slice_index_or es i d) (sym here) in
-        let far = subst (λ (e : Visit). count - number < (trail_of e.kind k).reach) (sym entry)
-        (omega (arith, over, here, below, same_count)) in
-        subst (λ (e : Visit). (trail_of e.kind k).told ≡ Some (length es)) entry
-        (clear k far ∙ (λ t. Some (here t + (count - number))) ∙ ap (λ (n : ℕ). Some n) there)
-    | inr apart ↦ (let other = apart.1 in are.parted k d low (omega (arith, high, other)) over)
+        let is = same.1 in
+        let there : k + (number - at) ≡ number = omega (arith, is, up) in
+        let kind : slice_index_or ks at x ≡ slice_index_or ks k d =
+        get_or_default ks at x d below ∙ ap (λ (i : ℕ). slice_index_or ks i d) (sym is) in
+        let far = subst (λ (q : StrideKind). number - at < (trail_of q k).reach) (sym kind) (omega (arith, over, is, up)) in
+        subst (λ (q : StrideKind). (trail_of q k).told ≡ Some number) kind (clear k far ∙ ap (λ (n : ℕ). Some n) there)
+    | inr apart ↦ (let other = apart.1 in are.parted k d low (omega (arith, high, other)) here over)
   ];
 }
 
 -- or no longer does
-pub parted_slow : (number : ℕ) (old es : List Visit) → number < length es → ArePartedBelow number old es
-    → ArePartedBelow (number + 1) old (slowed_at number es)
-parted_slow number old es below are =
-    let new = slowed_at number es in
-    let count = slowed_length es number in
-    let begun = slowed_begun es number in
+pub parted_slow : (number at : ℕ) (old ks : List StrideKind) → at < length ks → ArePartedBelow number at old ks
+    → ArePartedBelow number (at + 1) old (set ks at Slow)
+parted_slow number at old ks below are =
+    let new = set ks at Slow in
+    let count = length-set ks at Slow in
     record {
-      count = count ∙ are.count;
-      visits = λ b d. slowed_visits number b d es ∙ are.visits b d;
-      looks = λ k. slowed_looks es number k ∙ are.looks k;
-      begun = begun ∙ are.begun;
-      ordered = λ b d h. slowed_ordered number b d h es ∙ are.ordered b d h;
-      entries = λ image old_are. slowed_entries image es number (are.entries image old_are);
-      free = slowed_free es number are.free;
-      parted = λ k d low high over. elim (eqb_tells k number) [
+      slowed = record {
+        count = count ∙ are.slowed.count;
+        each = λ k d within. elim (set_slow ks at k d) [
+          | inl slow ↦ inl slow
+          | inr kept ↦ elim (are.slowed.each k d (omega (arith, within, count))) [
+            | inl slow ↦ inl (kept ∙ slow)
+            | inr old_kept ↦ inr (kept ∙ old_kept)
+          ]
+        ];
+      };
+      parted = λ k d low high up over. elim (eqb_tells k at) [
         | inl same ↦
-            let here = same.1 in
-            let slow = subst (λ (i : ℕ). (slice_index_or new i d).kind ≡ Slow) (sym here) (slowed_here es number d below) in
-            let none : (trail_of (slice_index_or new k d).kind k).reach ≡ 0 = ap (λ (q : StrideKind). (trail_of q k).reach) slow in
-            absurd (omega (arith, over, none, here, below, count))
+            let is = same.1 in
+            let slow = subst (λ (i : ℕ). slice_index_or new i d ≡ Slow) (sym is) (set_here ks at d below) in
+            let none : (trail_of (slice_index_or new k d) k).reach ≡ 0 = ap (λ (q : StrideKind). (trail_of q k).reach) slow in
+            absurd (omega (arith, over, none, up))
         | inr apart ↦
             let other = apart.1 in
-            elim (slowed_kind es number k d) [
+            elim (set_slow ks at k d) [
               | inl slow ↦
-                  let none : (trail_of (slice_index_or new k d).kind k).reach ≡ 0 = ap (λ (q : StrideKind). (trail_of q k).reach) slow in
-                  absurd (omega (arith, over, none, high, other, below, count))
+                  let none : (trail_of (slice_index_or new k d) k).reach ≡ 0 = ap (λ (q : StrideKind). (trail_of q k).reach) slow in
+                  absurd (omega (arith, over, none, up))
               | inr kind ↦
-                  let far = subst (λ (q : StrideKind). length new < k + (trail_of q k).reach) kind over in
-                  subst (λ (q : StrideKind). (trail_of q k).told ≡ Some (length new)) (sym kind)
-                  (are.parted k d (omega (arith, low, count)) (omega (arith, high, other)) (omega (arith, far, count))
-                  ∙ ap (λ (n : ℕ). Some n) (sym count))
+                  let far = subst (λ (q : StrideKind). number < k + (trail_of q k).reach) kind over in
+                  subst (λ (q : StrideKind). (trail_of q k).told ≡ Some number) (sym kind)
+                  (are.parted k d low (omega (arith, high, other)) up far)
             ]
       ];
     }
 
 -- all of them
-pub all_parted : (number : ℕ) (old es : List Visit) → length es ≤ number → ArePartedBelow number old es
-    → ArePartedAt (length es) es
-all_parted number old es past are = λ k d below over.
-    let short = (are.free k d below).short in
-    are.parted k d (omega (arith, over, short)) (omega (arith, below, past)) over
+pub all_parted : (number at : ℕ) (old ks : List StrideKind) → AreShort old
+    → ((k : ℕ) → k < length ks → k ≤ number → k < at) → ArePartedBelow number at old ks → ArePartedAt number ks
+all_parted number at old ks short past are = λ k d below up over.
+    let count = are.slowed.count in
+    let high = past k below up in
+    elim (are.slowed.each k d below) [
+      | inl slow ↦
+          let none : (trail_of (slice_index_or ks k d) k).reach ≡ 0 = ap (λ (q : StrideKind). (trail_of q k).reach) slow in
+          absurd (omega (arith, over, none, up))
+      | inr kept ↦
+          let few = short k d (omega (arith, below, count)) in
+          let far = subst (λ (q : StrideKind). number < k + (trail_of q k).reach) kept over in
+          are.parted k d (omega (arith, far, few)) high up over
+    ]
 
--- 6. What a stretch leaves
-
-pub stretched_free : (first end h' : ℕ) (es new : List Visit) → IsStretched first end h' es new → AreFree es → AreFree new
-stretched_free first end h' es new is free = λ j d below.
-    let count = is.count in
-    subst (IsFree (looks_in new) j) (sym (ap (λ (e : Visit). e.kind) (is.entry j d)))
-    (same_looks (looks_in es) (looks_in new) j (slice_index_or es j d).kind is.looks (free j d (omega (arith, below, count))))
-
-pub stretched_entries : (image : List Cell) (first end h' : ℕ) (es new : List Visit) → IsStretched first end h' es new
-    → AreEntriesIn image es → AreEntriesIn image new
-stretched_entries image first end h' es new is are = λ j d below.
-    let count = is.count in
-    subst (IsServedAt image j) (sym (ap (λ (e : Visit). e.op) (is.entry j d))) (are j d (omega (arith, below, count)))
-
--- 7. One more entry
+-- 6. One more entry
 
 pub visits_push : (b d h : ℕ) (es : List Visit) (e : Visit) (v : WordVisits) → AreOrdered b d h es → e.begun ≡ 0
-    → e.ended ≡ h → v ≡ record { times = 0; looks = looks_by e.op.kind e.op.imm }
+    → e.ended ≡ h → v ≡ record { times = 0; looks = e.looks }
     → visits_in b d (es ++ e ∷ []) ≡ visits_in b d es ++ v ∷ []
 visits_push b d h [] e v ordered begun ended is =
     let times : b + e.begun - (d + e.ended) ≡ 0 = omega (arith, ordered, begun, ended) in
-    (λ t. record { times = times t; looks = looks_by e.op.kind e.op.imm } ∷ []) ∙ ap (λ (w : WordVisits). w ∷ []) (sym is)
+    (λ t. record { times = times t; looks = e.looks } ∷ []) ∙ ap (λ (w : WordVisits). w ∷ []) (sym is)
 visits_push b d h (x ∷ es) e v ordered begun ended is =
     ap (λ (vs : List WordVisits). visits_by (b + x.begun) (d + x.ended) x ∷ vs)
     (visits_push (b + x.begun) (d + x.ended) h es e v ordered.1 begun ended is)
@@ -565,21 +537,8 @@ pub begun_push : (es : List Visit) (e : Visit) → e.begun ≡ 0 → begun_in (e
 begun_push [] e begun = omega (arith, begun)
 begun_push (x ∷ es) e begun = let rest = begun_push es e begun in omega (arith, rest)
 
-pub entries_push : (image : List Cell) (es : List Visit) (e : Visit) → IsServedAt image (length es) e.op
-    → AreEntriesIn image es → AreEntriesIn image (es ++ e ∷ [])
-entries_push image es e served are = λ k d below.
-    let sum : length (es ++ e ∷ []) ≡ length es + 1 = length_push es e in
-    elim (eqb_tells k (length es)) [
-      | inl same ↦ subst (λ (i : ℕ). IsServedAt image i (slice_index_or (es ++ e ∷ []) i d).op) (sym same.1)
-          (subst (λ (y : Visit). IsServedAt image (length es) y.op) (sym (get_or_push es e d (length es) refl)) served)
-      | inr apart ↦
-          let other = apart.1 in
-          let within : k < length es = omega (arith, below, sum, other) in
-          subst (λ (y : Visit). IsServedAt image k y.op) (sym (get_or_append_left es (e ∷ []) d k within)) (are k d within)
-    ]
-
 looks_push : (es : List Visit) (e : Visit) (x : ℕ) → looks_in (es ++ e ∷ []) x ≡ true
-    → (looks_in es x ≡ true) ⊎ ((x ≡ length es) × (looks_by e.op.kind e.op.imm ≡ true))
+    → (looks_in es x ≡ true) ⊎ ((x ≡ length es) × (e.looks ≡ true))
 looks_push [] e zero is = inr (refl, is)
 looks_push [] e (suc x) is = absurd (cc)
 looks_push (y ∷ es) e zero is = inl is
@@ -588,46 +547,33 @@ looks_push (y ∷ es) e (suc x) is = elim (looks_push es e x is) [
   | inr new ↦ (let end = new.0 in inr (omega (arith, end), new.1))
 ]
 
-looks_within : (es : List Visit) (x : ℕ) → looks_in es x ≡ true → x < length es
-looks_within [] x is = absurd (cc)
-looks_within (e ∷ es) zero is = omega arith
-looks_within (e ∷ es) (suc x) is = let rest = looks_within es x is in omega (arith, rest)
-
-pub free_push : (es : List Visit) (e : Visit) → AreFree es → ((at : ℕ) → (trail_of e.kind at).reach ≤ 22)
-    → (looks_by e.op.kind e.op.imm ≡ true → (e.kind ≡ Slow) × ArePartedAt (length es) es) → AreFree (es ++ e ∷ [])
-free_push es e free short looks = λ k d below.
-    let sum : length (es ++ e ∷ []) ≡ length es + 1 = length_push es e in
-    let new = looks_in (es ++ e ∷ []) in
-    elim (eqb_tells k (length es)) [
-      | inl same ↦ subst (λ (y : Visit). IsFree new k y.kind) (sym (get_or_push es e d k (sym same.1))) (record {
-        short = short k;
-        free = λ x low high is. elim (looks_push es e x is) [
-          | inl old ↦ (let within = looks_within es x old in let here = same.1 in absurd (omega (arith, within, low, here)))
-          | inr one ↦ (let slow = (looks one.1).0 in
-              let none : (trail_of e.kind k).reach ≡ 0 = ap (λ (q : StrideKind). (trail_of q k).reach) slow in
-              absurd (omega (arith, low, high, none)))
-        ];
-      })
-      | inr apart ↦
-          let other = apart.1 in
-          let within : k < length es = omega (arith, below, sum, other) in
-          let old = free k d within in
-          let kind = (slice_index_or es k d).kind in
-          subst (λ (y : Visit). IsFree new k y.kind) (sym (get_or_append_left es (e ∷ []) d k within)) (record {
-            short = old.short;
+-- and strides go over no word that looks, where none goes over its own if that does
+pub free_push : (es : List Visit) (e : Visit) (old new : List StrideKind) → AreFree (looks_in es) old → AreSlowedTo old new
+    → (e.looks ≡ true → ArePartedAt (length es) new) → AreFree (looks_in (es ++ e ∷ [])) new
+free_push es e old new free slowed parted = λ k d below.
+    let count = slowed.count in
+    let looks = looks_in (es ++ e ∷ []) in
+    elim (slowed.each k d below) [
+      | inl slow ↦ subst (IsFree looks k) (sym slow) (slow_free looks k)
+      | inr kept ↦
+          let one = free k d (omega (arith, below, count)) in
+          let kind = slice_index_or new k d in
+          let before = subst (IsFree (looks_in es) k) (sym kept) one in record {
+            short = before.short;
             free = λ x low high is. elim (looks_push es e x is) [
-              | inl before ↦ old.free x low high before
-              | inr one ↦ (let end = one.0 in
-                  (looks one.1).1 k d within (omega (arith, end, high)) ∙ ap (λ (n : ℕ). Some n) (sym end))
+              | inl old_looks ↦ before.free x low high old_looks
+              | inr new_looks ↦
+                  let end = new_looks.0 in
+                  parted new_looks.1 k d below (omega (arith, end, low)) (omega (arith, end, high)) ∙ ap (λ (n : ℕ). Some n) (sym end)
             ];
-          })
+          }
     ]
 
--- the entries of a table after they were lent
-pub put_back : (new rest : List Visit) (n : ℕ) → length new ≡ n → take n (new ++ rest) ≡ new
+-- a list after it was lent
+pub put_back : {X : Type 0} (new rest : List X) (n : ℕ) → length new ≡ n → take n (new ++ rest) ≡ new
 put_back new rest n count = ap (λ (k : ℕ). take k (new ++ rest)) (sym count) ∙ take-append_seam new rest
 
--- 8. The sums of stretches, entry by entry
+-- 7. The sums of stretches, entry by entry
 
 abbrev pub times_in : (b d : ℕ) → List Visit → List ℕ
 times_in b d es = map (λ (v : WordVisits). v.times) (visits_in b d es)

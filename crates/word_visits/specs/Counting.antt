@@ -1,5 +1,5 @@
 -- Helps the code alone: bodies whose words are counted.
-use Rattle.std.specs.Prelude.{◌≡◌, ℕ, ◌+◌, ◌-◌, ◌^◌, ◌<◌, ◌≤◌, Bool, true, List, ◌++◌, Option, Some, None, length}
+use Rattle.std.specs.Prelude.{◌≡◌, ℕ, ◌+◌, ◌-◌, ◌^◌, ◌<◌, ◌≤◌, Bool, true, List, ◌++◌, length}
 use Rattle.node_words.specs.exec_map.Contents.{program_of}
 use Rattle.node_words.specs.jump_map.Image.{Cell}
 use Rattle.node_words.specs.node_model.Node.{Node, Work, can_execute}
@@ -37,9 +37,3 @@ pub record PassesBy (image : List Cell) (looks : ℕ → Bool) (behind : ℕ) (f
       → work.program ≡ program_of b.local.program → can_execute n.phase ≡ true
       → n.executed + before + (from.left - to.left) < work.budget
       → AreWordsOf work looks (numbers_passed behind from to) (node_on n b from.at before)
-
--- words were passed, of which so many stand behind a jump; or nothing changed
-abbrev pub IsPassed : List Cell → (ℕ → Bool) → Option ℕ → Going → ExecState → Going → ExecState
-    → Type 0
-IsPassed image looks None from b to b' = (b'.lane ≡ b.lane) × (b'.local ≡ b.local)
-IsPassed image looks (Some behind) from b to b' = PassesBy image looks behind from b to b'

@@ -13,3 +13,7 @@ tallies_of t = tallies_in (visits_of t.words) t.sums.items
 -- a table of this image's words
 abbrev pub AreTalliesIn : List Cell → Tallies → Type 0
 AreTalliesIn image t = AreVisitsIn image t.words
+
+-- a table is still one of the words of each image of which it was
+abbrev pub StayTallies : (old new : Tallies) → Type 0
+StayTallies old new = (image : List Cell) → AreTalliesIn image old → AreTalliesIn image new

@@ -1,8 +1,7 @@
 //! Which words count, by their numbers.
 
-ghost use Rattle.std.specs.Prelude.{◌≡◌, ◌+◌, ◌-◌, ◌^◌, ◌<◌, ◌≤◌, ℕ, List};
+ghost use Rattle.std.specs.Prelude.{◌≡◌, ◌+◌, ◌-◌, ◌^◌, ◌<◌, ◌≤◌, List};
 ghost use Rattle.std.specs.Prelude.{if◌then◌else◌, length, slice_index_or};
-ghost use Rattle.node_words.specs.jump_map.Image.{Cell};
 ghost use Rattle.node_words.specs.Runs.{numbers_from};
 ghost use Rattle.word_visits.specs.Tallies.{steps_among};
 ghost use Rattle.word_visits.specs.Sums.{RiseByOne, tallies_in};
@@ -27,32 +26,29 @@ pub struct Tallies {
 
 impl Tallies {
     ghost use Rattle.std.specs.Prelude.{◌≡◌, ◌++◌, ◌∷◌, [], List, IfOk, OnOk};
-    ghost use Rattle.word_visits.specs.TallyTables.{AreTalliesIn, tallies_of};
+    ghost use Rattle.word_visits.specs.TallyTables.{AreTalliesIn, StayTallies, tallies_of};
 
-    /// A table of no words, with room for so many.
-    pub fn with_room(alloc: Global, words: usize) -> Result<Tallies, AllocError>
+    /// A table of none of the words of an image, with room for all of them.
+    pub fn of(alloc: Global, image: &Image) -> Result<Tallies, AllocError>
         ensures none { IfOk result (λ tallies. tallies_of tallies ≡ []) }
-        ensures table { IfOk result (λ tallies. (image : List Cell) → AreTalliesIn image tallies) }
+        ensures table { IfOk result (AreTalliesIn image.now) }
     {
-        let mut sums = Vec::with_capacity(alloc, words)?;
+        let words = Visits::of(alloc, image)?;
+        let mut sums = Vec::with_capacity(alloc, image.len())?;
         sums.push(0)?;
-        Ok(Tallies {
-            words: Visits::with_room(alloc, words)?,
-            sums,
-        })
+        Ok(Tallies { words, sums })
     }
 
     /// Adds the image's next word, and says whether it counts and whether it looks.
-    pub fn push(&mut self, image: &Image, counts: bool, looks: bool) -> Result<(), AllocError>
-        requires table { AreTalliesIn image.now self.old }
+    pub fn push(&mut self, counts: bool, looks: bool) -> Result<(), AllocError>
         ensures more { OnOk result (tallies_of self.new
             ≡ tallies_of self.old ++ record { counts = counts; looks = looks } ∷ []) }
-        ensures table { OnOk result (AreTalliesIn image.now self.new) }
+        ensures table { StayTallies self.old self.new }
     {
         let last = self.sums.len() - 1;
         let sum = next_sum(self.sums[last], counts);
         self.sums.reserve(1)?;
-        self.words.push(image, looks)?;
+        self.words.push(looks)?;
         self.sums.push_reserved(sum);
         Ok(())
     }

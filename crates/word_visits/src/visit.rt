@@ -1,67 +1,24 @@
-//! One entry of a table of visits.
+//! One entry of a table of visits, and the strides of one.
 
-ghost use Rattle.std.specs.Prelude.{◌≡◌, ◌+◌, ◌^◌, ◌<◌, ◌≤◌, ℕ, Some, true, false};
+ghost use Rattle.std.specs.Prelude.{◌≡◌, ◌+◌, ◌^◌, ◌<◌, ◌≤◌, ℕ, Some, true, length};
 ghost use Rattle.node_words.specs.Trails.{trail_of};
-ghost use Rattle.word_visits.specs.Entries.{IsServedAt, looks_by, once_begun, once_ended, slowed};
+ghost use Rattle.word_visits.specs.Entries.{IsSlowedTo, behind_at, once_begun, once_ended};
 
-use node_words::jump_map::{Image, MOST_WORDS, StrideKind};
-use node_words::micro_op::{MicroKind, MicroOp};
-use rv32_decode::Reg;
+use node_words::jump_map::StrideKind;
+use node_words::micro_op::MicroOp;
 
-/// The immediate of the micro-op of a word that looks.
-const LOOKING: u32 = 1;
-
-/// The micro-op of a word that looks.
-const LOOKS: MicroOp = MicroOp {
-    kind: MicroKind::Slow,
-    rd: Reg::ZERO,
-    rs1: Reg::ZERO,
-    rs2: Reg::ZERO,
-    imm: LOOKING,
-};
-
-/// No stride goes over more words.
+/// No stride of a table goes over more words.
 pub(crate) const MOST_REACH: usize = 22;
 
-/// The micro-op of a word, and the kind of its stride, and the stretches of executed words that it
-/// begins and that end before it. The micro-op is slow where the path apart has to serve the word:
-/// the word looks, or the image has no other micro-op for it. The stride is slow where the word has
-/// to go by itself, since its stride goes over a word that looks.
+/// Whether a word looks, and the stretches of executed words that it begins and that end before it.
 #[derive(Clone, Copy, Debug, PartialEq, Eq)]
 pub(crate) struct Visit {
-    pub(crate) op: MicroOp,
-    pub(crate) kind: StrideKind,
+    pub(crate) looks: bool,
     pub(crate) begun: usize,
     pub(crate) ended: usize,
 }
 
 impl Visit {
-    /// The entry of the word of a number, which wasn't executed yet: so many stretches end before
-    /// it.
-    pub(crate) fn none(image: &Image, number: usize, looks: bool, ended: usize) -> Visit
-        ensures begun { result.begun ≡ 0 }
-        ensures ended { result.ended ≡ ended }
-        ensures looks { looks_by result.op.kind result.op.imm ≡ looks }
-        ensures served { IsServedAt image.now number result.op }
-        ensures short { (at : ℕ) → (trail_of result.kind at).reach ≤ 22 }
-        ensures apart { looks ≡ true → result.kind ≡ StrideKind.Slow }
-    {
-        if looks {
-            return Visit {
-                op: LOOKS,
-                kind: StrideKind::Slow,
-                begun: 0,
-                ended,
-            };
-        }
-        Visit {
-            op: served_by(image, number),
-            kind: stride_of(image, number),
-            begun: 0,
-            ended,
-        }
-    }
-
     /// One more stretch begins at the word.
     #[inline(always)]
     pub(crate) fn begin(&mut self)
@@ -79,51 +36,36 @@ impl Visit {
     {
         self.ended += 1;
     }
+}
 
-    /// The word goes by itself from here on.
-    pub(crate) fn part(&mut self)
-        ensures { self.new ≡ slowed self.old }
-    {
-        self.kind = StrideKind::Slow;
-    }
+/// The micro-ops of an image's words, and what is executed at once from each on, where a table has
+/// them. A word goes by itself, that is its stride is slow, where the stride would go over a word
+/// that looks.
+#[derive(Clone, Copy)]
+pub(crate) struct StrideTables<'a> {
+    pub(crate) micros: &'a [MicroOp],
+    pub(crate) kinds: &'a [StrideKind],
+}
 
-    /// Whether the word counts only where it reads something other than the flag word.
-    pub(crate) fn looks(&self) -> bool
-        ensures { result ≡ looks_by self.now.op.kind self.now.op.imm }
-    {
-        match self.op.kind {
-            MicroKind::Slow => self.op.imm == LOOKING,
-            _ => false,
-        }
+/// The kind of a stride, where that is short; else the word goes by itself.
+pub(crate) fn short_stride(kind: StrideKind) -> StrideKind
+    ensures slowed { IsSlowedTo kind result }
+    ensures short { (at : ℕ) → (trail_of result at).reach ≤ 22 }
+{
+    if trail_by(kind).reach <= MOST_REACH {
+        kind
+    } else {
+        StrideKind::Slow
     }
 }
 
-/// The micro-op of the word of a number, which doesn't look: that of the image, or a slow one.
-fn served_by(image: &Image, number: usize) -> MicroOp
-    ensures served { IsServedAt image.now number result }
-    ensures looks { looks_by result.kind result.imm ≡ false }
+/// How many words of the stride from a number on stand behind its jump.
+#[inline(always)]
+pub(crate) fn behind_at(kinds: &[StrideKind], at: usize) -> usize
+    requires inside { at < length kinds.now }
+    ensures { result ≡ behind_at kinds.now at }
 {
-    if number >= MOST_WORDS {
-        return MicroOp::SLOW;
-    }
-    match image.micro(number as u32) {
-        Some(op) => match op.kind {
-            MicroKind::Slow => MicroOp::SLOW,
-            _ => *op,
-        },
-        None => MicroOp::SLOW,
-    }
-}
-
-/// The kind of the stride of the word of a number, where that is short.
-fn stride_of(image: &Image, number: usize) -> StrideKind
-    ensures { (at : ℕ) → (trail_of result at).reach ≤ 22 }
-{
-    let (_, strides) = image.tables();
-    match strides.get(number) {
-        Some(kind) if trail_by(*kind).reach <= MOST_REACH => *kind,
-        _ => StrideKind::Slow,
-    }
+    trail_by(kinds[at]).behind
 }
 
 /// Where the words of a stride stand: among so many from its first on, and so many of them behind

@@ -1,55 +1,67 @@
 //! How often each word was executed, by its number.
 
-ghost use Rattle.std.specs.Prelude.{◌≡◌, ◌≤◌, ℕ, List, true, length};
-ghost use Rattle.node_words.specs.jump_map.Image.{Cell};
-ghost use Rattle.word_visits.specs.Entries.{AreEntriesIn, AreFree, ArePartedAt};
-ghost use Rattle.word_visits.specs.Entries.{begun_in, is_ordered, looks_in, visits_in};
+ghost use Rattle.std.specs.Prelude.{◌≡◌, ◌≤◌, IfOk, true};
+ghost use Rattle.word_visits.specs.Entries.{AreFree, ArePartedAt, AreShort, AreSlowedTo};
+ghost use Rattle.word_visits.specs.Entries.{begun_in, is_ordered, looks_in};
 
-use crate::visit::{MOST_REACH, Visit, is_clear};
-use node_words::jump_map::Image;
+use crate::visit::{MOST_REACH, Visit, is_clear, short_stride};
+use node_words::jump_map::{Image, StrideKind};
+use node_words::micro_op::MicroOp;
 use std::alloc::{AllocError, Global};
 
 /// A table of words and of how often each was executed. Some of its words look: such a word counts
 /// only where it reads something other than the flag word.
 #[derive(Drop)]
 pub struct Visits {
+    /// The words, and how often each was executed.
     pub(crate) entries: Vec<Visit>,
+    /// The micro-ops of the image's words.
+    pub(crate) micros: Vec<MicroOp>,
+    /// What is executed at once from each word of the image on: never a stride over a word that
+    /// looks.
+    pub(crate) kinds: Vec<StrideKind>,
     /// How many stretches end behind the last word.
     pub(crate) behind: usize,
     /// How often all words together were executed.
     pub(crate) counted: u64,
     ghost few: { begun_in entries.items ≤ counted },
     ghost ordered: { is_ordered 0 0 behind entries.items ≡ true },
-    ghost free: { AreFree entries.items },
+    ghost free: { AreFree (looks_in entries.items) kinds.items },
 }
 
 impl Visits {
-    ghost use Rattle.std.specs.Prelude.{◌≡◌, ◌++◌, ◌∷◌, [], List, IfOk, OnErr, OnOk, length, map};
-    ghost use Rattle.word_visits.specs.VisitTables.{AreVisitsIn, visits_of};
+    ghost use Rattle.std.specs.Prelude.{◌≡◌, ◌++◌, ◌∷◌, [], IfOk, OnErr, OnOk, length, map};
+    ghost use Rattle.word_visits.specs.VisitTables.{AreVisitsIn, StayVisits, visits_of};
 
-    /// A table of no words, with room for so many.
-    pub fn with_room(alloc: Global, words: usize) -> Result<Visits, AllocError>
+    /// A table of none of the words of an image, with room for all of them.
+    pub fn of(alloc: Global, image: &Image) -> Result<Visits, AllocError>
         ensures none { IfOk result (λ visits. visits_of visits ≡ []) }
-        ensures table { IfOk result (λ visits. (image : List Cell) → AreVisitsIn image visits) }
+        ensures table { IfOk result (AreVisitsIn image.now) }
     {
+        let (micros, kinds) = image.tables();
         Ok(Visits {
-            entries: Vec::with_capacity(alloc, words)?,
+            entries: Vec::with_capacity(alloc, micros.len())?,
+            micros: micros.to_vec(alloc)?,
+            kinds: short_strides(alloc, kinds)?,
             behind: 0,
             counted: 0,
         })
     }
 
     /// Adds the image's next word, and says whether it looks.
-    pub fn push(&mut self, image: &Image, looks: bool) -> Result<(), AllocError>
-        requires table { AreVisitsIn image.now self.old }
+    pub fn push(&mut self, looks: bool) -> Result<(), AllocError>
         ensures more { OnOk result (visits_of self.new
             ≡ visits_of self.old ++ record { times = 0; looks = looks } ∷ []) }
-        ensures table { OnOk result (AreVisitsIn image.now self.new) }
+        ensures table { StayVisits self.old self.new }
         ensures err { OnErr result (visits_of self.new ≡ visits_of self.old) }
     {
-        let visit = Visit::none(image, self.entries.len(), looks, self.behind);
-        part_strides(&mut self.entries, looks);
-        self.entries.push(visit)?;
+        let number = self.entries.len();
+        self.entries.push(Visit {
+            looks,
+            begun: 0,
+            ended: self.behind,
+        })?;
+        part_strides(&mut self.kinds, number, looks);
         self.behind = 0;
         Ok(())
     }
@@ -77,29 +89,35 @@ impl Visits {
     }
 }
 
-/// Where the word behind these entries looks, strides that go over it are no longer counted at
-/// once.
-fn part_strides(entries: &mut [Visit], looks: bool)
-    requires free { AreFree entries.old }
-    ensures count { length entries.new ≡ length entries.old }
-    ensures visits { (begun ended : ℕ)
-        → visits_in begun ended entries.new ≡ visits_in begun ended entries.old }
-    ensures looks { (k : ℕ) → looks_in entries.new k ≡ looks_in entries.old k }
-    ensures begun { begun_in entries.new ≡ begun_in entries.old }
-    ensures ordered { (begun ended behind : ℕ)
-        → is_ordered begun ended behind entries.new ≡ is_ordered begun ended behind entries.old }
-    ensures entries { (image : List Cell)
-        → AreEntriesIn image entries.old → AreEntriesIn image entries.new }
-    ensures free { AreFree entries.new }
-    ensures parted { looks ≡ true → ArePartedAt (length entries.new) entries.new }
+/// The kinds of strides that are short; a word goes by itself whose stride isn't.
+fn short_strides(alloc: Global, kinds: &[StrideKind]) -> Result<Vec<StrideKind>, AllocError>
+    ensures slowed { IfOk result (λ strides. AreSlowedTo kinds.now strides.items) }
+    ensures short { IfOk result (λ strides. AreShort strides.items) }
+{
+    let mut strides = Vec::with_capacity(alloc, kinds.len())?;
+    for kind in kinds {
+        strides.push(short_stride(*kind))?;
+    }
+    Ok(strides)
+}
+
+/// Each word goes by itself whose stride would go over the word of a number, if that looks.
+fn part_strides(kinds: &mut [StrideKind], number: usize, looks: bool)
+    requires short { AreShort kinds.old }
+    ensures slowed { AreSlowedTo kinds.old kinds.new }
+    ensures parted { looks ≡ true → ArePartedAt number kinds.new }
 {
     if !looks {
         return;
     }
-    let count = entries.len();
-    for number in count.saturating_sub(MOST_REACH)..count {
-        if !is_clear(entries[number].kind, count - number) {
-            entries[number].part();
+    let end = if number < kinds.len() {
+        number + 1
+    } else {
+        kinds.len()
+    };
+    for at in number.saturating_sub(MOST_REACH)..end {
+        if !is_clear(kinds[at], number - at) {
+            kinds[at] = StrideKind::Slow;
         }
     }
 }

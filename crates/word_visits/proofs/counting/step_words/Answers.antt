@@ -1,336 +1,191 @@
 -- Words that are tallied, one stride after another.
-use Rattle.std.proofs.Common.{rules, ◌+◌, ◌-◌, ◌^◌, ◌<◌, ◌≤◌, ◌∙◌, length, refl, sym, ap, subst, arith}
-use Rattle.node_words.specs.node_memory.Shelf.{Shelf, ground_of}
+use Rattle.std.proofs.Common.{ℕ, ◌+◌, ◌-◌, ◌≤◌, ◌∙◌, length, refl, sym, subst, arith}
 use Rattle.node_words.proofs.StrideLemmas.{as_many}
-use Rattle.node_words.proofs.UndoLogLemmas.{undoable_both}
-use Rattle.node_words.proofs.WordLemmas.{goes_none}
-use Rattle.std.proofs.lemmas.Option.{slice_get-get_or}
-use Rattle.node_words.specs.jump_map.declared.strides.StrideKind.TheVariants.{Slow}
-use Rattle.word_visits.specs.declared.visit.Visit.{Visit}
-use Rattle.word_visits.specs.Entries.{IsFree, IsServedAt, looks_by, looks_in, visits_in}
-use Rattle.word_visits.proofs.SteppingLemmas.{stepping_apart, stepping_ends, stepping_starts, stepping_straight}
+use Rattle.word_visits.specs.Counting.{PassesBy}
+use Rattle.word_visits.specs.Entries.{looks_in, visits_in}
+use Rattle.word_visits.proofs.SteppingLemmas.{HasStretch, stretch_apart, stretch_ends, stretch_same, stretch_still, stretch_straight, word_stretches}
 use Rattle.word_visits.proofs.TableLemmas.{length_visits, looks_entry}
+use Rattle.word_visits.proofs.counting.step_words.Goals.{After-steps_between, else-loop-going-test, then-loop-going-test+else-pass_stride+in-Some+then-going-strides-2, then-going-line-2, else-going-line-2, then-loop-going-test+else-pass_stride+in-None}
 use Rattle.word_visits.proofs.counting.step_words.Goals as goal
 
-pub loop-going-init : goal.loop-going-init
-loop-going-init c =
-    stepping_starts c.args.image.now c.args.most c.args.from c.args.body.now c.args.entries.now c.args.sums.now c.ranges.from.fits
-
-pub bounds-entries-here : goal.bounds-entries-here
-bounds-entries-here c =
-    let micros = c.tables.result.0.now in
-    let many = as_many c.args.image.now micros c.tables.ensures.micros in
-    let strides = c.tables.ensures.strides.count in
-    let test : c.loop-going.going.at < length c.tables.result.1.now = c.loop-going-test.true in
-    let enough = c.requires.enough in
-    omega (arith, many, strides, test, enough)
-
-pub pass-requires-clause-is : goal.pass-requires-clause-is
-pass-requires-clause-is c =
-    c.tables.ensures.strides.each c.loop-going.going.at _
-    (slice_get-get_or c.tables.result.1.now c.loop-going.going.at Slow c.loop-going-test.true)
-
-pub pass-requires-clause-served : goal.pass-requires-clause-served
-pass-requires-clause-served c =
-    let micros = c.tables.result.0.now in
-    let many = as_many c.args.image.now micros c.tables.ensures.micros in
-    let strides = c.tables.ensures.strides.count in
-    let test : c.loop-going.going.at < length c.tables.result.1.now = c.loop-going-test.true in
-    let enough = c.requires.enough in
-    subst (λ (e : Visit). IsServedAt c.args.image.now c.loop-going.going.at e.op) (sym c.index-entries-here.is)
-    (c.requires.entries c.loop-going.going.at c.index-entries-here.result (omega (arith, many, strides, test, enough)))
-
-pub overflow_sub-end : goal.overflow_sub-end
-overflow_sub-end c =
-    let image = c.args.image.now in
-    let h = c.loop-going.invariant in
-    let es = c.args.entries.now in
-    let here = c.loop-going.going in
-    let micros = c.tables.result.0.now in
-    let many = as_many image micros c.tables.ensures.micros in
-    let strides = c.tables.ensures.strides.count in
-    let test : here.at < length c.tables.result.1.now = c.loop-going-test.true in
-    let enough = c.requires.enough in
-    let long : length c.tables.result.1.now ≤ length c.args.entries.now = omega (arith, many, strides, enough) in
-    let below : here.at < length es = omega (arith, test, long) in
-    let is = c.index-entries-here.is in
-    let free = subst (λ (e : Visit). IsFree (looks_in es) here.at e.kind) (sym is)
-    (c.requires.free here.at c.index-entries-here.result below) in
-    let looks = looks_entry es here.at c.index-entries-here.result below
-    ∙ ap (λ (e : Visit). looks_by e.op.kind e.op.imm) (sym is) in
-    let passes = c.in-Some.ensures.passed (looks_in es) free looks in
-    let some = passes.some in
-    omega (arith, some)
-
-pub overflow_sub-end-in-Some : goal.overflow_sub-end-in-Some
-overflow_sub-end-in-Some c =
-    let image = c.args.image.now in
-    let h = c.loop-going.invariant in
-    let es = c.args.entries.now in
-    let here = c.loop-going.going in
-    let micros = c.tables.result.0.now in
-    let many = as_many image micros c.tables.ensures.micros in
-    let strides = c.tables.ensures.strides.count in
-    let test : here.at < length c.tables.result.1.now = c.loop-going-test.true in
-    let enough = c.requires.enough in
-    let long : length c.tables.result.1.now ≤ length c.args.entries.now = omega (arith, many, strides, enough) in
-    let below : here.at < length es = omega (arith, test, long) in
-    let is = c.index-entries-here.is in
-    let free = subst (λ (e : Visit). IsFree (looks_in es) here.at e.kind) (sym is)
-    (c.requires.free here.at c.index-entries-here.result below) in
-    let looks = looks_entry es here.at c.index-entries-here.result below
-    ∙ ap (λ (e : Visit). looks_by e.op.kind e.op.imm) (sym is) in
-    let passes = c.in-Some.ensures.passed (looks_in es) free looks in
-    let some = passes.some in
-    omega (arith, some)
-
-pub overflow_add-end-in-Some : goal.overflow_add-end-in-Some
-overflow_add-end-in-Some c =
-    let image = c.args.image.now in
-    let h = c.loop-going.invariant in
-    let es = c.args.entries.now in
-    let here = c.loop-going.going in
-    let micros = c.tables.result.0.now in
-    let many = as_many image micros c.tables.ensures.micros in
-    let strides = c.tables.ensures.strides.count in
-    let test : here.at < length c.tables.result.1.now = c.loop-going-test.true in
-    let enough = c.requires.enough in
-    let long : length c.tables.result.1.now ≤ length c.args.entries.now = omega (arith, many, strides, enough) in
-    let below : here.at < length es = omega (arith, test, long) in
-    let is = c.index-entries-here.is in
-    let free = subst (λ (e : Visit). IsFree (looks_in es) here.at e.kind) (sym is)
-    (c.requires.free here.at c.index-entries-here.result below) in
-    let looks = looks_entry es here.at c.index-entries-here.result below
-    ∙ ap (λ (e : Visit). looks_by e.op.kind e.op.imm) (sym is) in
-    let passes = c.in-Some.ensures.passed (looks_in es) free looks in
-    let some = passes.some in
-    let low = h.low in
-    let left = h.left in
-    let most = c.ranges.most.fits in
-    let small : here.at + (here.left - c.pass.new.going.left - c.in-Some.last) + c.in-Some.last < 2 ^ 64 =
-    omega (arith, low, left, most, some) in
-    search rules
-
 pub steps_between-steps-requires-clause-within : goal.steps_between-steps-requires-clause-within
-steps_between-steps-requires-clause-within c =
-    let image = c.args.image.now in
-    let h = c.loop-going.invariant in
+steps_between-steps-requires-clause-within c = λ _.
     let es = c.args.entries.now in
-    let here = c.loop-going.going in
-    let micros = c.tables.result.0.now in
-    let many = as_many image micros c.tables.ensures.micros in
-    let strides = c.tables.ensures.strides.count in
-    let test : here.at < length c.tables.result.1.now = c.loop-going-test.true in
-    let enough = c.requires.enough in
-    let long : length c.tables.result.1.now ≤ length c.args.entries.now = omega (arith, many, strides, enough) in
-    let below : here.at < length es = omega (arith, test, long) in
-    let is = c.index-entries-here.is in
-    let free = subst (λ (e : Visit). IsFree (looks_in es) here.at e.kind) (sym is)
-    (c.requires.free here.at c.index-entries-here.result below) in
-    let looks = looks_entry es here.at c.index-entries-here.result below
-    ∙ ap (λ (e : Visit). looks_by e.op.kind e.op.imm) (sym is) in
-    let passes = c.in-Some.ensures.passed (looks_in es) free looks in
+    let passes = c.if-pass_stride.ensures.passed (looks_in es) c.requires.free in
     let some = passes.some in
     let first = passes.first in
+    let last = c.behind_at-last.ensures in
+    let line = c.loop-going.invariant.line in
+    let many = as_many c.args.image.now c.args.strides.micros.now c.requires.micros in
+    let strides = c.requires.strides.count in
+    let enough = c.requires.enough in
     let count = c.requires.count in
-    λ _. omega (arith, first, many, strides, long, count)
+    omega (arith, some, first, last, line, many, strides, enough, count)
 
-pub overflow_sub-first : goal.overflow_sub-first
-overflow_sub-first c =
+pub loop-going-preserved-then-going-line : goal.loop-going-preserved-then-going-line
+loop-going-preserved-then-going-line c =
     let image = c.args.image.now in
-    let h = c.loop-going.invariant in
     let es = c.args.entries.now in
     let here = c.loop-going.going in
-    let micros = c.tables.result.0.now in
-    let many = as_many image micros c.tables.ensures.micros in
-    let strides = c.tables.ensures.strides.count in
-    let test : here.at < length c.tables.result.1.now = c.loop-going-test.true in
+    let to = c.pass_stride.new.going in
+    let passes : PassesBy image (looks_in es) c.behind_at-last.result here c.loop-going.body to c.pass_stride.new.body =
+    subst (λ (n : ℕ). PassesBy image (looks_in es) n here c.loop-going.body to c.pass_stride.new.body) (sym c.behind_at-last.ensures)
+    (c.if-pass_stride.ensures.passed (looks_in es) c.requires.free) in
+    let many = as_many image c.args.strides.micros.now c.requires.micros in
+    let strides = c.requires.strides.count in
     let enough = c.requires.enough in
-    let long : length c.tables.result.1.now ≤ length c.args.entries.now = omega (arith, many, strides, enough) in
-    let below : here.at < length es = omega (arith, test, long) in
-    let is = c.index-entries-here.is in
-    let free = subst (λ (e : Visit). IsFree (looks_in es) here.at e.kind) (sym is)
-    (c.requires.free here.at c.index-entries-here.result below) in
-    let looks = looks_entry es here.at c.index-entries-here.result below
-    ∙ ap (λ (e : Visit). looks_by e.op.kind e.op.imm) (sym is) in
-    let passes = c.in-Some.ensures.passed (looks_in es) free looks in
-    let some = passes.some in
-    passes.least
-
-pub loop-going-smaller-then-going-end : goal.loop-going-smaller-then-going-end
-loop-going-smaller-then-going-end c =
-    let image = c.args.image.now in
-    let h = c.loop-going.invariant in
-    let es = c.args.entries.now in
-    let here = c.loop-going.going in
-    let micros = c.tables.result.0.now in
-    let many = as_many image micros c.tables.ensures.micros in
-    let strides = c.tables.ensures.strides.count in
-    let test : here.at < length c.tables.result.1.now = c.loop-going-test.true in
-    let enough = c.requires.enough in
-    let long : length c.tables.result.1.now ≤ length c.args.entries.now = omega (arith, many, strides, enough) in
-    let below : here.at < length es = omega (arith, test, long) in
-    let is = c.index-entries-here.is in
-    let free = subst (λ (e : Visit). IsFree (looks_in es) here.at e.kind) (sym is)
-    (c.requires.free here.at c.index-entries-here.result below) in
-    let looks = looks_entry es here.at c.index-entries-here.result below
-    ∙ ap (λ (e : Visit). looks_by e.op.kind e.op.imm) (sym is) in
-    let passes = c.in-Some.ensures.passed (looks_in es) free looks in
-    let some = passes.some in
-    omega (arith, some)
-
-pub loop-going-smaller : goal.loop-going-smaller
-loop-going-smaller c =
-    let image = c.args.image.now in
-    let h = c.loop-going.invariant in
-    let es = c.args.entries.now in
-    let here = c.loop-going.going in
-    let micros = c.tables.result.0.now in
-    let many = as_many image micros c.tables.ensures.micros in
-    let strides = c.tables.ensures.strides.count in
-    let test : here.at < length c.tables.result.1.now = c.loop-going-test.true in
-    let enough = c.requires.enough in
-    let long : length c.tables.result.1.now ≤ length c.args.entries.now = omega (arith, many, strides, enough) in
-    let below : here.at < length es = omega (arith, test, long) in
-    let is = c.index-entries-here.is in
-    let free = subst (λ (e : Visit). IsFree (looks_in es) here.at e.kind) (sym is)
-    (c.requires.free here.at c.index-entries-here.result below) in
-    let looks = looks_entry es here.at c.index-entries-here.result below
-    ∙ ap (λ (e : Visit). looks_by e.op.kind e.op.imm) (sym is) in
-    let passes = c.in-Some.ensures.passed (looks_in es) free looks in
-    let some = passes.some in
-    omega (arith, some)
-
-pub loop-going-preserved-then-going-end : goal.loop-going-preserved-then-going-end
-loop-going-preserved-then-going-end c =
-    let image = c.args.image.now in
-    let h = c.loop-going.invariant in
-    let es = c.args.entries.now in
-    let here = c.loop-going.going in
-    let micros = c.tables.result.0.now in
-    let many = as_many image micros c.tables.ensures.micros in
-    let strides = c.tables.ensures.strides.count in
-    let test : here.at < length c.tables.result.1.now = c.loop-going-test.true in
-    let enough = c.requires.enough in
-    let long : length c.tables.result.1.now ≤ length c.args.entries.now = omega (arith, many, strides, enough) in
-    let below : here.at < length es = omega (arith, test, long) in
-    let is = c.index-entries-here.is in
-    let free = subst (λ (e : Visit). IsFree (looks_in es) here.at e.kind) (sym is)
-    (c.requires.free here.at c.index-entries-here.result below) in
-    let looks = looks_entry es here.at c.index-entries-here.result below
-    ∙ ap (λ (e : Visit). looks_by e.op.kind e.op.imm) (sym is) in
-    let passes = c.in-Some.ensures.passed (looks_in es) free looks in
-    let some = passes.some in
-    let to = c.pass.new.going in
+    let count = c.requires.count in
     let entries = length_visits 0 0 es in
-    let count = c.requires.count in
-    stepping_apart image c.args.most c.args.from c.loop-going.first (here.at + (here.left - to.left - c.in-Some.last))
-    c.loop-going.steps (c.loop-going.steps + c.steps_between-steps.result) c.steps_between-steps.result c.in-Some.last c.args.body.now
-    c.loop-going.body c.pass.new.body es c.args.sums.now here to (omega (arith, many, strides, long)) c.requires.count refl
-    c.pass.ensures.counts c.pass.ensures.undoable passes (c.steps_between-steps.ensures.sum (visits_in 0 0 es) (omega (arith, entries, count)))
-    c.steps_between-steps.ensures.most refl h
+    let h = c.loop-going.invariant in
+    let all = stretch_apart image c.args.most c.args.from c.loop-going.first c.loop-going.line c.loop-going.steps
+    c.steps_between-steps.result c.behind_at-last.result (c.loop-going.line - to.left - c.behind_at-last.result)
+    (to.at - c.behind_at-last.result) c.args.body.now c.loop-going.body c.pass_stride.new.body es c.args.sums.now here to
+    (omega (arith, many, strides, enough)) count refl refl c.pass_stride.ensures.counts c.pass_stride.ensures.undoable passes
+    (c.steps_between-steps.ensures.sum (visits_in 0 0 es) (omega (arith, entries, count))) c.steps_between-steps.ensures.most
+    (record { stepped = h.stepped; far = h.line }) in
+    record { stepped = all.stepped; line = refl; inside = c.if-pass_stride.ensures.inside refl }
+
+pub loop-going-preserved-else-going-line : goal.loop-going-preserved-else-going-line
+loop-going-preserved-else-going-line c =
+    let image = c.args.image.now in
+    let es = c.args.entries.now in
+    let many = as_many image c.args.strides.micros.now c.requires.micros in
+    let strides = c.requires.strides.count in
+    let enough = c.requires.enough in
+    let h = c.loop-going.invariant in
+    let all = stretch_straight image c.args.most c.args.from c.loop-going.first c.loop-going.line c.loop-going.steps _
+    c.args.body.now c.loop-going.body c.pass_stride.new.body es c.args.sums.now c.loop-going.going c.pass_stride.new.going
+    (omega (arith, many, strides, enough)) c.requires.count c.if-going-line.false c.pass_stride.ensures.counts
+    c.pass_stride.ensures.undoable (c.if-pass_stride.ensures.passed (looks_in es) c.requires.free)
+    (record { stepped = h.stepped; far = h.line }) in
+    record { stepped = all.stepped; line = all.far; inside = c.if-pass_stride.ensures.inside refl }
 
 pub loop-going-preserved : goal.loop-going-preserved
 loop-going-preserved c =
     let image = c.args.image.now in
-    let h = c.loop-going.invariant in
     let es = c.args.entries.now in
     let here = c.loop-going.going in
-    let micros = c.tables.result.0.now in
-    let many = as_many image micros c.tables.ensures.micros in
-    let strides = c.tables.ensures.strides.count in
-    let test : here.at < length c.tables.result.1.now = c.loop-going-test.true in
+    let mid = c.pass_stride.new.going in
+    let to = c.to.new.self in
+    let b = c.loop-going.body in
+    let m = c.pass_stride.new.body in
+    let many = as_many image c.args.strides.micros.now c.requires.micros in
+    let strides = c.requires.strides.count in
     let enough = c.requires.enough in
-    let long : length c.tables.result.1.now ≤ length c.args.entries.now = omega (arith, many, strides, enough) in
-    let below : here.at < length es = omega (arith, test, long) in
-    let is = c.index-entries-here.is in
-    let free = subst (λ (e : Visit). IsFree (looks_in es) here.at e.kind) (sym is)
-    (c.requires.free here.at c.index-entries-here.result below) in
-    let looks = looks_entry es here.at c.index-entries-here.result below
-    ∙ ap (λ (e : Visit). looks_by e.op.kind e.op.imm) (sym is) in
-    let passes = c.in-Some.ensures.passed (looks_in es) free looks in
-    let some = passes.some in
-    let to = c.pass.new.going in
-    stepping_straight image c.args.most c.args.from c.loop-going.first c.loop-going.steps c.in-Some.last c.args.body.now
-    c.loop-going.body c.pass.new.body es c.args.sums.now here to (omega (arith, many, strides, long)) c.requires.count
-    c.if-going-end.false c.pass.ensures.counts c.pass.ensures.undoable passes h
-
-pub returns-in-None-clause-words : goal.returns-in-None-clause-words
-returns-in-None-clause-words c =
-    let image = c.args.image.now in
-    let h = c.loop-going.invariant in
-    let es = c.args.entries.now in
-    let here = c.loop-going.going in
-    let micros = c.tables.result.0.now in
-    let many = as_many image micros c.tables.ensures.micros in
-    let strides = c.tables.ensures.strides.count in
-    let test : here.at < length c.tables.result.1.now = c.loop-going-test.true in
-    let enough = c.requires.enough in
-    let long : length c.tables.result.1.now ≤ length c.args.entries.now = omega (arith, many, strides, enough) in
-    let below : here.at < length es = omega (arith, test, long) in
-    let is = c.index-entries-here.is in
-    let free = subst (λ (e : Visit). IsFree (looks_in es) here.at e.kind) (sym is)
-    (c.requires.free here.at c.index-entries-here.result below) in
-    let looks = looks_entry es here.at c.index-entries-here.result below
-    ∙ ap (λ (e : Visit). looks_by e.op.kind e.op.imm) (sym is) in
-    let same = c.in-None.ensures.passed (looks_in es) free looks in
-    (goes_none image here.at (c.args.most - here.left) c.loop-going.body c.pass.new.body same.0 same.1).goes c.args.most c.args.from
-    c.args.body.now (omega arith) h.ground h.words
-
-pub returns-in-None-clause-steps : goal.returns-in-None-clause-steps
-returns-in-None-clause-steps c =
-    let image = c.args.image.now in
-    let h = c.loop-going.invariant in
-    let es = c.args.entries.now in
-    let here = c.loop-going.going in
-    let micros = c.tables.result.0.now in
-    let many = as_many image micros c.tables.ensures.micros in
-    let strides = c.tables.ensures.strides.count in
-    let test : here.at < length c.tables.result.1.now = c.loop-going-test.true in
-    let enough = c.requires.enough in
-    let long : length c.tables.result.1.now ≤ length c.args.entries.now = omega (arith, many, strides, enough) in
-    let below : here.at < length es = omega (arith, test, long) in
-    let is = c.index-entries-here.is in
-    let free = subst (λ (e : Visit). IsFree (looks_in es) here.at e.kind) (sym is)
-    (c.requires.free here.at c.index-entries-here.result below) in
-    let looks = looks_entry es here.at c.index-entries-here.result below
-    ∙ ap (λ (e : Visit). looks_by e.op.kind e.op.imm) (sym is) in
-    let entries = length_visits 0 0 es in
     let count = c.requires.count in
-    stepping_ends image c.args.most c.args.from c.loop-going.first c.loop-going.steps (c.loop-going.steps + c.steps_between.result)
-    c.steps_between.result c.args.body.now c.loop-going.body es c.args.sums.now here
-    (c.steps_between.ensures.sum (visits_in 0 0 es) (omega (arith, entries, count))) refl h
-
-pub returns-in-None-clause-ground : goal.returns-in-None-clause-ground
-returns-in-None-clause-ground c =
-    let image = c.args.image.now in
+    let inside = c.loop-going.invariant.inside in
+    let entries = length_visits 0 0 es in
+    let long : length image ≤ length es = omega (arith, many, strides, enough) in
     let h = c.loop-going.invariant in
+    let stays = c.if-pass_stride.ensures.passed (looks_in es) c.requires.free in
+    let before = stretch_still image c.args.most c.args.from c.loop-going.first c.loop-going.line c.loop-going.steps
+    c.args.body.now b m es c.args.sums.now here mid stays c.pass_stride.ensures.counts c.pass_stride.ensures.undoable
+    (record { stepped = h.stepped; far = h.line }) in
+    let passes = word_stretches image (looks_in es) c.in-Some.next here mid to b m c.pass_one.new.body c.requires.few
+    (omega (arith, inside, many, strides)) stays c.to.ensures.left c.to.ensures.at c.to.ensures.low
+    (λ says. c.in-Some.ensures.reads (sym (looks_entry es here.at _ (omega (arith, inside, enough))) ∙ says))
+    c.in-Some.ensures.steps in
+    let all : HasStretch image c.args.most c.args.from c.args.body.now es c.args.sums.now to c.if-going-line-2.first
+    c.if-going-line-2.line c.if-going-line-2.steps c.pass_one.new.body = elim c.if-going-line-2.branch [
+      | then-going-line-2 w ↦ stretch_same image c.args.most c.args.from to.at c.if-going-line-2.first (to.at + to.left)
+          c.if-going-line-2.line (c.loop-going.steps + w.steps_between-steps-then-going-line-2.result) c.if-going-line-2.steps
+          c.args.body.now c.pass_one.new.body c.pass_one.new.body es c.args.sums.now to to refl refl w.first-is w.line-is w.steps-is
+          (stretch_apart image c.args.most c.args.from c.loop-going.first c.loop-going.line c.loop-going.steps
+          w.steps_between-steps-then-going-line-2.result 0 (c.loop-going.line - to.left) to.at c.args.body.now m
+          c.pass_one.new.body es c.args.sums.now mid to long count (omega arith) (omega arith) c.pass_one.ensures.counts
+          c.pass_one.ensures.undoable passes
+          (w.steps_between-steps-then-going-line-2.ensures.sum (visits_in 0 0 es) (omega (arith, entries, count)))
+          w.steps_between-steps-then-going-line-2.ensures.most before)
+      | else-going-line-2 w ↦ stretch_same image c.args.most c.args.from c.loop-going.first c.if-going-line-2.first
+          c.loop-going.line c.if-going-line-2.line c.loop-going.steps c.if-going-line-2.steps c.args.body.now
+          c.pass_one.new.body c.pass_one.new.body es c.args.sums.now to to refl refl w.first-is w.line-is w.steps-is
+          (stretch_straight image c.args.most c.args.from c.loop-going.first c.loop-going.line c.loop-going.steps 0
+          c.args.body.now m c.pass_one.new.body es c.args.sums.now mid to long count w.if-going-line-2.false
+          c.pass_one.ensures.counts c.pass_one.ensures.undoable passes before)
+    ] in
+    record { stepped = all.stepped; line = all.far; inside = c.if-going-strides-2.false }
+
+-- where no further word is executed
+ends : (c : After-steps_between) → HasStretch c.args.image.now c.args.most c.args.from c.args.body.now c.args.entries.now
+    c.args.sums.now c.loop-going-test.going c.loop-going-test.first c.loop-going-test.line c.loop-going-test.steps
+    c.loop-going-test.body
+ends c =
+    let image = c.args.image.now in
     let es = c.args.entries.now in
     let here = c.loop-going.going in
-    let micros = c.tables.result.0.now in
-    let many = as_many image micros c.tables.ensures.micros in
-    let strides = c.tables.ensures.strides.count in
-    let test : here.at < length c.tables.result.1.now = c.loop-going-test.true in
+    let b = c.loop-going.body in
+    let many = as_many image c.args.strides.micros.now c.requires.micros in
+    let strides = c.requires.strides.count in
     let enough = c.requires.enough in
-    let long : length c.tables.result.1.now ≤ length c.args.entries.now = omega (arith, many, strides, enough) in
-    let below : here.at < length es = omega (arith, test, long) in
-    let is = c.index-entries-here.is in
-    let free = subst (λ (e : Visit). IsFree (looks_in es) here.at e.kind) (sym is)
-    (c.requires.free here.at c.index-entries-here.result below) in
-    let looks = looks_entry es here.at c.index-entries-here.result below
-    ∙ ap (λ (e : Visit). looks_by e.op.kind e.op.imm) (sym is) in
-    let same = c.in-None.ensures.passed (looks_in es) free looks in
-    ap (λ (s : Shelf). ground_of s) same.1 ∙ h.ground
+    let count = c.requires.count in
+    let inside = c.loop-going.invariant.inside in
+    let entries = length_visits 0 0 es in
+    let long : length image ≤ length es = omega (arith, many, strides, enough) in
+    let h : HasStretch image c.args.most c.args.from c.args.body.now es c.args.sums.now here c.loop-going.first c.loop-going.line
+    c.loop-going.steps b = record { stepped = c.loop-going.invariant.stepped; far = c.loop-going.invariant.line } in
+    elim c.loop-going-test.branch [
+      | else-loop-going-test w ↦ stretch_same image c.args.most c.args.from c.loop-going.first c.loop-going-test.first
+          c.loop-going.line c.loop-going-test.line c.loop-going.steps c.loop-going-test.steps c.args.body.now b
+          c.loop-going-test.body es c.args.sums.now here c.loop-going-test.going w.body-is w.going-is w.first-is w.line-is
+          w.steps-is h
+      | then-loop-going-test+else-pass_stride+in-Some+then-going-strides-2 w ↦
+          let mid = w.pass_stride.new.going in
+          let to = w.to.new.self in
+          let m = w.pass_stride.new.body in
+          let stays = w.if-pass_stride.ensures.passed (looks_in es) c.requires.free in
+          let before = stretch_still image c.args.most c.args.from c.loop-going.first c.loop-going.line c.loop-going.steps
+          c.args.body.now b m es c.args.sums.now here mid stays w.pass_stride.ensures.counts w.pass_stride.ensures.undoable h in
+          let passes = word_stretches image (looks_in es) w.in-Some.next here mid to b m w.pass_one.new.body c.requires.few
+          (omega (arith, inside, many, strides)) stays w.to.ensures.left w.to.ensures.at w.to.ensures.low
+          (λ says. w.in-Some.ensures.reads (sym (looks_entry es here.at _ (omega (arith, inside, enough))) ∙ says))
+          w.in-Some.ensures.steps in
+          elim w.if-going-line-2.branch [
+            | then-going-line-2 x ↦ stretch_same image c.args.most c.args.from to.at c.loop-going-test.first (to.at + to.left)
+                c.loop-going-test.line (c.loop-going.steps + x.steps_between-steps-then-going-line-2.result)
+                c.loop-going-test.steps c.args.body.now w.pass_one.new.body c.loop-going-test.body es c.args.sums.now to
+                c.loop-going-test.going w.body-is w.going-is (w.first-is ∙ x.first-is) (w.line-is ∙ x.line-is)
+                (w.steps-is ∙ x.steps-is)
+                (stretch_apart image c.args.most c.args.from c.loop-going.first c.loop-going.line c.loop-going.steps
+                x.steps_between-steps-then-going-line-2.result 0 (c.loop-going.line - to.left) to.at c.args.body.now m
+                w.pass_one.new.body es c.args.sums.now mid to long count (omega arith) (omega arith)
+                w.pass_one.ensures.counts w.pass_one.ensures.undoable passes
+                (x.steps_between-steps-then-going-line-2.ensures.sum (visits_in 0 0 es) (omega (arith, entries, count)))
+                x.steps_between-steps-then-going-line-2.ensures.most before)
+            | else-going-line-2 x ↦ stretch_same image c.args.most c.args.from c.loop-going.first c.loop-going-test.first
+                c.loop-going.line c.loop-going-test.line c.loop-going.steps c.loop-going-test.steps c.args.body.now
+                w.pass_one.new.body c.loop-going-test.body es c.args.sums.now to c.loop-going-test.going w.body-is w.going-is
+                (w.first-is ∙ x.first-is) (w.line-is ∙ x.line-is) (w.steps-is ∙ x.steps-is)
+                (stretch_straight image c.args.most c.args.from c.loop-going.first c.loop-going.line c.loop-going.steps 0
+                c.args.body.now m w.pass_one.new.body es c.args.sums.now mid to long count x.if-going-line-2.false
+                w.pass_one.ensures.counts w.pass_one.ensures.undoable passes before)
+          ]
+      | then-loop-going-test+else-pass_stride+in-None w ↦
+          let mid = w.pass_stride.new.going in
+          let m = w.pass_stride.new.body in
+          let stays = w.if-pass_stride.ensures.passed (looks_in es) c.requires.free in
+          let before = stretch_still image c.args.most c.args.from c.loop-going.first c.loop-going.line c.loop-going.steps
+          c.args.body.now b m es c.args.sums.now here mid stays w.pass_stride.ensures.counts w.pass_stride.ensures.undoable h in
+          let none = w.in-None.ensures.steps in
+          stretch_same image c.args.most c.args.from c.loop-going.first c.loop-going-test.first c.loop-going.line
+          c.loop-going-test.line c.loop-going.steps c.loop-going-test.steps c.args.body.now w.pass_one.new.body
+          c.loop-going-test.body es c.args.sums.now mid c.loop-going-test.going w.body-is w.going-is w.first-is w.line-is
+          w.steps-is (stretch_still image c.args.most c.args.from c.loop-going.first c.loop-going.line c.loop-going.steps
+          c.args.body.now m w.pass_one.new.body es c.args.sums.now mid mid
+          (record { place = refl; lane = none.0; local = none.1 }) w.pass_one.ensures.counts w.pass_one.ensures.undoable before)
+    ]
 
-pub returns-in-None-clause-undoable : goal.returns-in-None-clause-undoable
-returns-in-None-clause-undoable c =
-    undoable_both c.args.body.now c.loop-going.body c.pass.new.body c.loop-going.invariant.undoable c.pass.ensures.undoable
+pub returns-clause-words : goal.returns-clause-words
+returns-clause-words c = (ends (goal.at.returns-clause-words c).After-steps_between).stepped.words
 
 pub returns-clause-steps : goal.returns-clause-steps
 returns-clause-steps c =
     let es = c.args.entries.now in
     let entries = length_visits 0 0 es in
     let count = c.requires.count in
-    stepping_ends c.args.image.now c.args.most c.args.from c.loop-going.first c.loop-going.steps
-    (c.loop-going.steps + c.steps_between-2.result) c.steps_between-2.result c.args.body.now c.loop-going.body es c.args.sums.now
-    c.loop-going.going (c.steps_between-2.ensures.sum (visits_in 0 0 es) (omega (arith, entries, count))) refl c.loop-going.invariant
+    let end = c.loop-going-test in
+    stretch_ends c.args.image.now c.args.most c.args.from end.first end.line end.steps c.steps_between.result c.args.body.now
+    end.body es c.args.sums.now end.going (c.steps_between.ensures.sum (visits_in 0 0 es) (omega (arith, entries, count)))
+    (ends (goal.at.returns-clause-steps c).After-steps_between)
+
+pub returns-clause-undoable : goal.returns-clause-undoable
+returns-clause-undoable c = (ends (goal.at.returns-clause-undoable c).After-steps_between).stepped.undoable
