@@ -17,7 +17,7 @@ messages  about a block, of a node about it, of code that asks for it; most firs
 2           node 1 read 1 exclusive 0 upgrade 0 invalidations 0
 1           code 00010008";
 
-const CALLS: [Row; 4] = [
+static CALLS: [Row; 4] = [
     ("blocks IN R", 0, &[COSTS, "\n"], ""),
     (
         "blocks IN IN",
@@ -54,12 +54,12 @@ const SECTIONS: &str = "00000000 00000000 00000000 00000000 00000000 00000000 00
 
 /// Where the file header says them: from 0x2070 on, five of forty bytes, of which the last has the
 /// names of the sections.
-const HEADER: [(usize, u8); 5] = [(32, 0x70), (33, 0x20), (46, 40), (48, 5), (50, 4)];
+static HEADER: [(usize, u8); 5] = [(32, 0x70), (33, 0x20), (46, 40), (48, 5), (50, 4)];
 
 /// The executable of the program, with these symbols.
 pub(crate) fn named(alloc: Global) -> Result<Vec<u8>, Fail> {
     let mut file = executable(alloc, ROW, &[7, 0, 0, 0], 64)?;
-    for (offset, byte) in HEADER {
+    for &(offset, byte) in &HEADER {
         if let Some(place) = file.get_mut(offset) {
             *place = byte;
         }
@@ -71,7 +71,7 @@ pub(crate) fn named(alloc: Global) -> Result<Vec<u8>, Fail> {
 }
 
 /// Of the two functions that have the load `read` begins last; the load is its second word.
-const NAMED: [Row; 1] = [("blocks IN R", 0, &[COSTS, " read+0x4\n"], "")];
+static NAMED: [Row; 1] = [("blocks IN R", 0, &[COSTS, " read+0x4\n"], "")];
 
 /// Makes the calls of a table where IN holds a program, and R the record.
 fn try_costs(alloc: Global, program: &[u8], rows: &[Row]) -> Result<(), Fail> {

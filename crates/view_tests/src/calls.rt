@@ -3,7 +3,7 @@
 use byte_source::MemSource;
 use std::alloc::Global;
 use std::test::Fail;
-use test_calls::calls::{Called, Expected, Held, Outside, sure, words_of};
+use test_calls::calls::{Called, Expected, Held, Outside, expect_text, sure, words_of};
 use views::shasta_view;
 
 /// How the viewer is called.
@@ -67,6 +67,9 @@ pub(crate) fn try_views(alloc: Global, files: &[(&str, &[u8])], rows: &[Row]) ->
     Ok(())
 }
 
+/// What OUT holds before a call that writes it.
+pub(crate) const BEFORE: &str = "before";
+
 /// Makes a call, fails the test where it answers otherwise, and gives what OUT then holds.
 pub(crate) fn written(alloc: Global, files: &[(&str, &[u8])], row: &Row) -> Result<Vec<u8>, Fail> {
     let (line, status, out, err) = *row;
@@ -74,4 +77,16 @@ pub(crate) fn written(alloc: Global, files: &[(&str, &[u8])], row: &Row) -> Resu
     let called = show(alloc, sure(files), line)?;
     called.expect(alloc, line, &answer)?;
     Ok(called.written)
+}
+
+/// Makes each call of a table that leaves OUT as it was, and fails the test where one doesn't.
+pub(crate) fn try_unwritten(
+    alloc: Global,
+    files: &[(&str, &[u8])],
+    rows: &[Row],
+) -> Result<(), Fail> {
+    for row in rows {
+        expect_text(&written(alloc, files, row)?, BEFORE)?;
+    }
+    Ok(())
 }

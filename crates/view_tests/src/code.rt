@@ -66,7 +66,7 @@ const LOADS_CODE: &str = "00010000: 000202b7 lui x5, 0x20                   ; as
 ";
 
 /// Calls where IN holds the first program.
-const CALLS: [Row; 11] = [
+static CALLS: [Row; 11] = [
     ("code IN", 0, &[HEAD, HI_CODE], ""),
     ("code --no-batch IN", 0, &[HEAD, HI_CODE], ""),
     ("--help", 0, &[USAGE], ""),
@@ -81,7 +81,7 @@ const CALLS: [Row; 11] = [
 ];
 
 /// And where V holds the file that `rewrite` makes of it.
-const VERIFIED: [Row; 3] = [
+static VERIFIED: [Row; 3] = [
     ("code IN --verify V", 0, &[HEAD, HI_CODE], ""),
     (
         "code --verify=IN IN",
@@ -93,13 +93,13 @@ const VERIFIED: [Row; 3] = [
 ];
 
 /// And where it holds the second.
-const LOADS_CALLS: [Row; 1] = [("code IN", 0, &[HEAD, LOADS_CODE], "")];
+static LOADS_CALLS: [Row; 1] = [("code IN", 0, &[HEAD, LOADS_CODE], "")];
 
 /// And where it holds none.
-const REFUSED: [Row; 1] = [("code IN", 4, &[], "shasta: executable refused 1 Short\n")];
+static REFUSED: [Row; 1] = [("code IN", 4, &[], "shasta: executable refused 1 Short\n")];
 
 /// And where the first put fails.
-const FAILED: Row = ("code IN", 3, &[], "shasta: cannot write output\n");
+static FAILED: Row = ("code IN", 3, &[], "shasta: cannot write output\n");
 
 /// Makes the calls of a table where IN holds a program without data.
 fn try_code(alloc: Global, program: &str, rows: &[Row]) -> Result<(), Fail> {

@@ -58,7 +58,7 @@ const NAMED: [&str; 10] = [
 ];
 
 /// Where IN holds the first program, V the file that `rewrite` makes of it, and T no executable.
-const HI_CALLS: [Row; 9] = [
+static HI_CALLS: [Row; 9] = [
     ("cost IN", 0, &HI_COSTS, ""),
     ("cost --verify V IN", 0, &HI_COSTS, ""),
     ("cost", 2, &[], USAGE),
@@ -75,9 +75,9 @@ const HI_CALLS: [Row; 9] = [
     ),
 ];
 
-const PAIR_CALLS: [Row; 1] = [("cost --no-batch IN", 0, &APART, "")];
+static PAIR_CALLS: [Row; 1] = [("cost --no-batch IN", 0, &APART, "")];
 
-const NAMED_CALLS: [Row; 1] = [("cost IN", 0, &NAMED, "")];
+static NAMED_CALLS: [Row; 1] = [("cost IN", 0, &NAMED, "")];
 
 /// Of a run, the steps of the original stand in the first column.
 const HEAD_OF_RUN: &str = "   steps   words per 100     own    flag   state   store";
@@ -110,7 +110,7 @@ node 1 read 1 exclusive 0 upgrade 0 false 0 invalidations 0 fallbacks 0 messages
 
 /// R is the record of the run, and B the record with one entry changed, whose message isn't there
 /// yet.
-const RUN_CALLS: [Row; 8] = [
+static RUN_CALLS: [Row; 8] = [
     ("cost IN R", 0, &RUN, ""),
     ("cost --verify V IN R", 0, &RUN, ""),
     ("cost IN R R", 2, &[], USAGE),

@@ -93,7 +93,7 @@ type Session = (
 );
 
 /// B is the record with one entry changed, whose message isn't there yet.
-const SESSIONS: [Session; 17] = [
+static SESSIONS: [Session; 17] = [
     ("gdb IN R", "", &[], 0, &[], ""),
     ("gdb IN R", "$?#3f", &[], 0, &[FIRST], ""),
     ("gdb IN R", "$?#3f+$D#44$?#3f", &[], 0, &[FIRST, OK], ""),

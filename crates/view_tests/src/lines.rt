@@ -10,7 +10,7 @@ use test_calls::calls::words_of;
 /// which stamp, to which, of the block of which address, and of which node.
 type Asked = Option<(Option<u64>, Option<u64>, Option<u32>, Option<u8>)>;
 
-const LINES: [(&str, Asked); 14] = [
+static LINES: [(&str, Asked); 14] = [
     ("trace a r", Some((None, None, None, None))),
     (
         "trace --from 72057594037927935 a --to=0 r",
@@ -54,14 +54,19 @@ fn trace_of(view: &View<'_>) -> Asked {
     }
 }
 
+/// Fails the test where a line asks for something else of a trace.
+fn try_trace(alloc: Global, line: &str, wanted: &Asked) -> Result<(), Fail> {
+    let words = words_of(alloc, line)?;
+    if asked_of(alloc, &words)? == *wanted {
+        return Ok(());
+    }
+    Err(Fail::new(format_args!("{line}")))
+}
+
 #[test]
 fn reads_the_words_of_trace(rt: HostRuntime) -> Result<(), Fail> {
-    let alloc = rt.alloc();
     for (line, wanted) in &LINES {
-        let words = words_of(alloc, line)?;
-        if asked_of(alloc, &words)? != *wanted {
-            return Err(Fail::new(format_args!("{line}")));
-        }
+        try_trace(rt.alloc(), line, wanted)?;
     }
     Ok(())
 }
@@ -79,7 +84,7 @@ type Run = Option<
     ),
 >;
 
-const RUNS: [(&str, Run); 12] = [
+static RUNS: [(&str, Run); 12] = [
     (
         "time a",
         Some((1, 100_000_000, None, None, false, [1200, 300, 300])),
@@ -146,14 +151,19 @@ fn known(name: Option<&str>) -> Option<&'static str> {
     }
 }
 
+/// Fails the test where a line asks for another run by a clock.
+fn try_time(alloc: Global, line: &str, wanted: &Run) -> Result<(), Fail> {
+    let words = words_of(alloc, line)?;
+    if run_of(alloc, &words)? == *wanted {
+        return Ok(());
+    }
+    Err(Fail::new(format_args!("{line}")))
+}
+
 #[test]
 fn reads_the_words_of_time(rt: HostRuntime) -> Result<(), Fail> {
-    let alloc = rt.alloc();
     for (line, wanted) in &RUNS {
-        let words = words_of(alloc, line)?;
-        if run_of(alloc, &words)? != *wanted {
-            return Err(Fail::new(format_args!("{line}")));
-        }
+        try_time(rt.alloc(), line, wanted)?;
     }
     Ok(())
 }

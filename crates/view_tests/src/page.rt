@@ -1,19 +1,15 @@
 //! `page`, of the run of two nodes whose trace `trace` puts.
 
-use crate::calls::{Row, USAGE, written};
+use crate::calls::{BEFORE, Row, USAGE, try_unwritten, written};
 use crate::trace::{RECORD, ROW};
 use std::alloc::Global;
 use std::str::from_utf8;
 use std::test::Fail;
-use test_calls::calls::expect_text;
 use test_calls::files::executable;
-
-/// What the page's file holds before.
-const BEFORE: &str = "before";
 
 /// A call that writes a page, and what the page says of its events, of which `trace` has a line
 /// each.
-const WRITTEN: [(&str, &str); 4] = [
+static WRITTEN: [(&str, &str); 4] = [
     ("page IN R OUT", "13 events, with stamps from 5 to 16."),
     (
         "page IN R OUT --from 9 --to 12",
@@ -24,7 +20,7 @@ const WRITTEN: [(&str, &str); 4] = [
 ];
 
 /// Calls that write none; B is the record with one entry changed, whose message isn't there yet.
-const UNWRITTEN: [Row; 6] = [
+static UNWRITTEN: [Row; 6] = [
     ("page IN R", 2, &[], USAGE),
     ("page A R OUT", 3, &[], "shasta: cannot read A\n"),
     (
@@ -68,13 +64,10 @@ fn try_page(
     Err(Fail::new(format_args!("{line}")))
 }
 
-/// Makes the calls of both tables.
+/// Makes each call that writes a page.
 fn try_pages(alloc: Global, files: &[(&str, &[u8])]) -> Result<(), Fail> {
     for (line, events) in &WRITTEN {
         try_page(alloc, files, line, events)?;
-    }
-    for row in &UNWRITTEN {
-        expect_text(&written(alloc, files, row)?, BEFORE)?;
     }
     Ok(())
 }
@@ -91,5 +84,6 @@ fn writes_pages_or_leaves_the_file(rt: HostRuntime) -> Result<(), Fail> {
         ("B", broken.as_bytes()),
         ("OUT", BEFORE.as_bytes()),
     ];
-    try_pages(alloc, &files)
+    try_pages(alloc, &files)?;
+    try_unwritten(alloc, &files, &UNWRITTEN)
 }

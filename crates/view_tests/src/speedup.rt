@@ -1,22 +1,18 @@
 //! `speedup`, of the program whose run on two nodes `time` works out.
 
-use crate::calls::{Row, USAGE, written};
+use crate::calls::{BEFORE, Row, USAGE, try_unwritten, written};
 use crate::trace::ROW;
 use std::alloc::Global;
 use std::str::from_utf8;
 use std::test::Fail;
-use test_calls::calls::expect_text;
 use test_calls::files::executable;
-
-/// What the page's file holds before.
-const BEFORE: &str = "before";
 
 /// A page of one node and of two, and what it says. The original makes five steps on one processor:
 /// lui, beq, addi, addi and ecall. One node takes 26, and 500 / 26 is 19. Two take 418, and spend
 /// 836 together: 18 on words, 230 on waits to read, 160 on handling, and 428 idle. Of 600 pixels 12
 /// are for words, and the waits to read end at 177, rounded down. The second node makes six steps,
 /// lw too. So 11 of the 18 words are of the original, which end at 7 pixels, rounded down.
-const SHOWN: (&str, [&str; 7]) = (
+static SHOWN: (&str, [&str; 7]) = (
     "speedup IN OUT --nodes 2 --latency 100 --line 10 --handling 20",
     [
         "--nodes 2 --budget 100000000 --latency 100 --line 10 --handling 20</code>",
@@ -33,7 +29,7 @@ const SHOWN: (&str, [&str; 7]) = (
 );
 
 /// A page of runs that the budget stops.
-const STOPPED: (&str, [&str; 2]) = (
+static STOPPED: (&str, [&str; 2]) = (
     "speedup IN OUT --nodes=1 --budget 3",
     [
         "The original doesn't end on one processor within the budget.",
@@ -42,7 +38,7 @@ const STOPPED: (&str, [&str; 2]) = (
 );
 
 /// Calls that write none; L names node 1 as a home, which one node hasn't.
-const UNWRITTEN: [Row; 6] = [
+static UNWRITTEN: [Row; 6] = [
     ("speedup IN", 2, &[], USAGE),
     ("speedup IN OUT --nodes 17", 2, &[], USAGE),
     ("speedup IN OUT --verify IN --no-batch", 2, &[], USAGE),
@@ -90,8 +86,5 @@ fn writes_speedups_or_leaves_the_file(rt: HostRuntime) -> Result<(), Fail> {
     ];
     try_page(alloc, &files, SHOWN.0, &SHOWN.1)?;
     try_page(alloc, &files, STOPPED.0, &STOPPED.1)?;
-    for row in &UNWRITTEN {
-        expect_text(&written(alloc, &files, row)?, BEFORE)?;
-    }
-    Ok(())
+    try_unwritten(alloc, &files, &UNWRITTEN)
 }

@@ -29,7 +29,7 @@ use test_calls::files::executable;
 /// Node 0 takes the Done at 378, to 398, and then the Bye, to 418. So node 0 took five messages and
 /// was idle from 26 to 108 and from 148 to 378, which is 312; node 1 took three, and is idle from
 /// 302 to 418.
-const SHARED: Row = (
+static SHARED: [Row; 1] = [(
     "time IN --nodes 2 --latency 100 --line 10 --handling 20",
     0,
     &[
@@ -41,10 +41,10 @@ const SHARED: Row = (
         "steps 11\ntime 418\n",
     ],
     "",
-);
+)];
 
 /// One node sends a Bye to itself alone, which is there at once.
-const ALONE: Row = (
+static ALONE: [Row; 1] = [(
     "time IN --handling 20",
     0,
     &[
@@ -54,9 +54,9 @@ const ALONE: Row = (
         "steps 5\ntime 26\n",
     ],
     "",
-);
+)];
 
-const REFUSED: [Row; 7] = [
+static REFUSED: [Row; 7] = [
     ("time IN --latency 1000001", 2, &[], USAGE),
     ("time IN --verify IN --no-batch", 2, &[], USAGE),
     ("time A", 3, &[], "shasta: cannot read A\n"),
@@ -81,7 +81,8 @@ fn shows_where_time_goes(rt: HostRuntime) -> Result<(), Fail> {
     let alloc = rt.alloc();
     let program = executable(alloc, ROW, &[7, 0, 0, 0], 64)?;
     let files = [("IN", program.as_slice()), ("T", b"text")];
-    try_views(alloc, &files, &[SHARED, ALONE])?;
+    try_views(alloc, &files, &SHARED)?;
+    try_views(alloc, &files, &ALONE)?;
     try_views(alloc, &files, &REFUSED)
 }
 

@@ -63,7 +63,7 @@ const LAST: &str = "15 node 1: 00010014 ecall; commits; ends
 
 /// B is the record with one entry changed, whose message isn't there yet; V is the file that
 /// `rewrite` makes.
-const CALLS: [Row; 8] = [
+static CALLS: [Row; 8] = [
     (
         "trace IN R",
         0,
