@@ -15,11 +15,16 @@ WORDS = 200_000_000
 ROUNDS = int(sys.argv[2]) if len(sys.argv) > 2 else 7
 here = pathlib.Path(__file__).resolve().parent
 
+def used():
+    """The processor time of all calls so far."""
+    usage = resource.getrusage(resource.RUSAGE_CHILDREN)
+    return usage.ru_utime + usage.ru_stime
+
 def seconds(words):
     """The processor time of a call."""
-    before = resource.getrusage(resource.RUSAGE_CHILDREN).ru_utime
+    before = used()
     subprocess.run(words, stdout=subprocess.DEVNULL, check=False)
-    return resource.getrusage(resource.RUSAGE_CHILDREN).ru_utime - before
+    return used() - before
 
 def rate(command, file, nodes=1):
     words = [program, *command.split(), file] + (["--nodes", str(nodes)] if nodes > 1 else [])

@@ -22,11 +22,17 @@ WORDS = 100_000_000
 SENDING = 4_000_000  # of `loop`, whose nodes send for one another's stores
 
 
+def used():
+    """The processor time of all calls so far."""
+    usage = resource.getrusage(resource.RUSAGE_CHILDREN)
+    return usage.ru_utime + usage.ru_stime
+
+
 def seconds(words):
     """The processor time of a call."""
-    before = resource.getrusage(resource.RUSAGE_CHILDREN).ru_utime
+    before = used()
     subprocess.run([program, *words, "--brief"], stdout=subprocess.DEVNULL, check=False)
-    return resource.getrusage(resource.RUSAGE_CHILDREN).ru_utime - before
+    return used() - before
 
 
 def least(words, budget):

@@ -9,7 +9,7 @@ PROGRAM is the built program (crates/shasta/out/shasta), and FOLDER has the exec
 A row has how many instructions the original executes, how many rewritten words stand for one of them,
 by default and with `--no-batch`, and the rod's time for an instruction in nanoseconds. Then it has the
 time of an original instruction as a multiple of the rod's, in `run`, both ways, and in `one`. Times are
-of the processor, with the start taken off; rounds alternate, and the best of so many (5) is given."""
+of the processor; rounds alternate, and the best of so many (5) is given, less the best start."""
 import pathlib, re, resource, subprocess, sys
 
 here = pathlib.Path(__file__).resolve().parent
@@ -20,11 +20,17 @@ BUDGET = str(2**32 - 1)
 NAMES = ("sort", "matrix", "pack", "strings", "crc", "structs")
 
 
+def used():
+    """The processor time of all calls so far."""
+    usage = resource.getrusage(resource.RUSAGE_CHILDREN)
+    return usage.ru_utime + usage.ru_stime
+
+
 def called(words):
     """The processor time of a call, and what it said."""
-    before = resource.getrusage(resource.RUSAGE_CHILDREN).ru_utime
+    before = used()
     said = subprocess.run(words, capture_output=True, text=True, check=False).stdout
-    return resource.getrusage(resource.RUSAGE_CHILDREN).ru_utime - before, said
+    return used() - before, said
 
 
 def run(file, option, budget=BUDGET, command="run"):
@@ -51,15 +57,16 @@ for name in NAMES:
     file = str(folder / f"{name}.elf")
     said = called([str(here / "rod"), file])[1]
     wanted, count = said.splitlines()[0], int(re.search(r"^(\d+) instructions", said, re.M).group(1))
-    best = [1e9, 1e9, 1e9, 1e9]
+    best = [1e9] * 7
     for _ in range(ROUNDS):
-        times = [called([str(here / "rod"), file])[0]]
+        times, starts = [called([str(here / "rod"), file])[0]], []
         for command, option in (("run", []), ("run", ["--no-batch"]), ("one", [])):
             took, text = run(file, option, command=command)
             assert wanted in text, f"{name}: {text}"
-            times.append(took - run(file, option, "1000", command)[0])
-        best = [min(pair) for pair in zip(best, times)]
+            times.append(took)
+            starts.append(run(file, option, "1000", command)[0])
+        best = [min(pair) for pair in zip(best, times + starts)]
     words = [words_of(file, option, count) / count for option in ([], ["--no-batch"])]
-    rod, batches, single, one = best
+    rod, batches, single, one = best[0], *(took - start for took, start in zip(best[1:4], best[4:]))
     print(f"| `{name}` | {count:,} | {words[0]:.2f} | {words[1]:.2f} | {rod / count * 1e9:.2f}"
           f" | {batches / rod:.2f} | {single / rod:.2f} | {one / rod:.2f} |", flush=True)
