@@ -29,8 +29,7 @@ no_address text digits e no_plus none a h =
 pub at_one : (values : List (List ℕ)) (n m : Option ℕ) → IsSaid (MaybeAddress n) values
     → IsSaid (MaybeAddress m) values → n ≡ m
 at_one [] n m h k = h ∙ sym k
-at_one (x ∷ []) n m h k =
-    h.2 ∙ ap (λ a. Some a) (address_one x h.0 k.0 h.1 k.1) ∙ sym k.2
+at_one (x ∷ []) n m h k = h.2 ∙ ap (λ a. Some a) (address_one x h.0 k.0 h.1 k.1) ∙ sym k.2
 at_one (x ∷ y ∷ more) n m h k = absurd h
 
 pub at_unread : (values : List (List ℕ)) (word : List ℕ) (n : Option ℕ) → values ≡ word ∷ []

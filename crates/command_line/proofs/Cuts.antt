@@ -61,12 +61,9 @@ behind settings (Bare s) rest (Joined t x) more p q e =
 behind settings (Bare s) rest (Bare t) more p q e =
     record { more = more; arguments_are = cc; rest_is = cc }
 
-none_behind : (a : Argument) (more : List Argument)
-    → [] ≡ words_of a ++ flat_map words_of more → ⊥
+none_behind : (a : Argument) (more : List Argument) → [] ≡ words_of a ++ flat_map words_of more → ⊥
 none_behind (Operand w) more e = absurd (cc)
-none_behind (Apart s v) more e = absurd (cc)
-none_behind (Joined s v) more e = absurd (cc)
-none_behind (Bare s) more e = absurd (cc)
+none_behind other more e = absurd (cc)
 
 same_arguments : (settings : List Setting) (xs ys : List Argument) → All (Is settings) xs
     → All (Is settings) ys → flat_map words_of xs ≡ flat_map words_of ys → xs ≡ ys
@@ -78,8 +75,7 @@ same_arguments settings (x ∷ xs) (y ∷ ys) p q e =
     (All-head (Is settings) y ys q) e in
     let more : ys ≡ b.more = same_tail y x ys b.more b.arguments_are in
     let same = same_arguments settings xs ys (All-tail (Is settings) x xs p)
-    (All-tail (Is settings) y ys q)
-    (b.rest_is ∙ ap (flat_map words_of) (sym more)) in
+    (All-tail (Is settings) y ys q) (b.rest_is ∙ ap (flat_map words_of) (sym more)) in
     ap (λ zs. x ∷ zs) (same ∙ more) ∙ sym b.arguments_are
   where
     same_tail : (a b : Argument) (more rest : List Argument) → a ∷ more ≡ b ∷ rest → more ≡ rest

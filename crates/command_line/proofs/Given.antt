@@ -42,8 +42,7 @@ abbrev Are : Given → List Argument → Type 0
 Are g arguments = (r : Role) → g (id_of r) ≡ words_for r arguments
 
 values_are : (g : Given) (arguments : List Argument) (s : Setting) (word : List ℕ)
-    → Are g arguments → word ≡ option_word s
-    → g (drop 2 word) ≡ flat_map (value_in word) arguments
+    → Are g arguments → word ≡ option_word s → g (drop 2 word) ≡ flat_map (value_in word) arguments
 values_are g arguments s word e is =
     subst (λ w. g (drop 2 w) ≡ flat_map (value_in w) arguments) (sym is) (e (role.Option s))
 
@@ -101,8 +100,7 @@ pub row_back : (row : Row) (settings : List Setting) (first : List ℕ) (rest wo
 row_back row settings first rest words m same e f r h = record {
   arguments = r.arguments;
   words_are = e ∙ ap (λ w. w ∷ rest) (sym f) ∙ ap (λ ws. row.word ∷ ws) r.is_cut.words_are;
-  are_arguments =
-      subst (λ os. All (IsArgument os) r.arguments) (sym same) r.is_cut.are_arguments;
+  are_arguments = subst (λ os. All (IsArgument os) r.arguments) (sym same) r.is_cut.are_arguments;
   places = subst (ArePlaced row.places) (r.gives role.Operand) h.places;
   options = given_are settings row.options r.arguments (given_by m) same r.gives h.options;
 }

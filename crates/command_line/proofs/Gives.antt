@@ -108,8 +108,7 @@ module _ (settings : List Setting) where
   for_joined role.Operand option v = refl
   for_joined (role.Option t) option v = refl
 
-  for_bare : (r : Role) (option : List ℕ)
-      → value_for r option ([] ∷ []) ≡ word_for r (Bare option)
+  for_bare : (r : Role) (option : List ℕ) → value_for r option ([] ∷ []) ≡ word_for r (Bare option)
   for_bare role.Operand option = refl
   for_bare (role.Option t) option = refl
 
@@ -117,18 +116,15 @@ module _ (settings : List Setting) where
   gives_one (Operand word) r rows k = gives_operand word r rows
   gives_one (Apart option v) r rows k =
       let o = option_in settings option true k.0 in
-      subst (λ w. Gives (Apart w v) r rows) o.word_is
-      (gives_value o.setting (v ∷ []) r rows
+      subst (λ w. Gives (Apart w v) r rows) o.word_is (gives_value o.setting (v ∷ []) r rows
       ∙ ap (λ ws. given (id_of r) rows ++ ws) (for_apart r (option_word o.setting) v))
   gives_one (Joined option v) r rows k =
       let o = option_in settings option true k in
-      subst (λ w. Gives (Joined w v) r rows) o.word_is
-      (gives_value o.setting (v ∷ []) r rows
+      subst (λ w. Gives (Joined w v) r rows) o.word_is (gives_value o.setting (v ∷ []) r rows
       ∙ ap (λ ws. given (id_of r) rows ++ ws) (for_joined r (option_word o.setting) v))
   gives_one (Bare option) r rows k =
       let o = option_in settings option false k in
-      subst (λ w. Gives (Bare w) r rows) o.word_is
-      (gives_value o.setting ([] ∷ []) r rows
+      subst (λ w. Gives (Bare w) r rows) o.word_is (gives_value o.setting ([] ∷ []) r rows
       ∙ ap (λ ws. given (id_of r) rows ++ ws) (for_bare r (option_word o.setting)))
 
   words_more : (a : Argument) (more : List Argument) (r : Role) →
@@ -147,8 +143,7 @@ module _ (settings : List Setting) where
       sym (ap (λ ws. given (id_of r) rows ++ ws) (none_for r) ∙ append-nil (given (id_of r) rows))
   gives_all (a ∷ more) r rows k =
       gives_all more r (give settings a rows) (All-tail (Is settings) a more k)
-      ∙ ap (λ ws. ws ++ words_for r more)
-      (gives_one a r rows (All-head (Is settings) a more k))
+      ∙ ap (λ ws. ws ++ words_for r more) (gives_one a r rows (All-head (Is settings) a more k))
       ∙ append_assoc (given (id_of r) rows) (word_for r a) (words_for r more)
       ∙ ap (λ ws. given (id_of r) rows ++ ws) (sym (words_more a more r))
 

@@ -4,7 +4,7 @@ use Rattle.command_line.specs.Tasks.{Read}
 use Rattle.command_line.specs.Asks.{ArePlaced}
 use Rattle.command_line.specs.Views.{place_of}
 use Rattle.command_line.specs.Reading.{AreOneOrTwo, AreTwo, IsOne}
-use Rattle.command_line.proofs.Rows.{one_file, placed_file, placed_read, same_file, same_read, two_read}
+use Rattle.command_line.proofs.Rows.{one_file, same_file, same_read, two_read}
 
 abbrev pub Placed : (x : List ℕ) (y : Option (List ℕ)) → List (List ℕ) → Type 0
 Placed x y = ArePlaced (Read (Some x) ∷ place_of y)
@@ -13,11 +13,6 @@ pub one_or_two : (x : List ℕ) (y : Option (List ℕ)) (words : List (List ℕ)
     → AreOneOrTwo x y words
 one_or_two x None words h = one_file x words h
 one_or_two x (Some y) words h = two_read x y words h
-
-pub placed_one_or_two : (x : List ℕ) (y : Option (List ℕ)) (words : List (List ℕ))
-    → AreOneOrTwo x y words → Placed x y words
-placed_one_or_two x None words h = placed_file x words h
-placed_one_or_two x (Some y) words h = placed_read x y words h
 
 apart : (x v w : List ℕ) (words : List (List ℕ)) → IsOne x words → AreTwo v w words → ⊥
 apart x v w words h k = let e : x ∷ [] ≡ v ∷ w ∷ [] = sym h.0 ∙ k.0 in cc

@@ -1,5 +1,5 @@
 -- What is given says of a command's row one command, and nothing else.
-use Rattle.std.proofs.Common.{◌≡◌, ◌≢◌, ℕ, ◌-◌, ◌^◌, Bool, ◌<◌, length, MatchOption, List, [], ◌∷◌, map, get_or, refl, sym, ap, ◌∙◌, subst, arith, Option, Some, None, Bor, option_map, unwrap_or, bytes_eq}
+use Rattle.std.proofs.Common.{◌≡◌, ℕ, ◌-◌, ◌^◌, Bool, ◌<◌, length, MatchOption, List, [], ◌∷◌, map, get_or, refl, sym, ap, ◌∙◌, subst, arith, Option, Some, None, Bor, option_map, unwrap_or, bytes_eq}
 use Rattle.std.specs.Prelude.{IsTrue, find}
 use Rattle.clap.specs.declared.parser.matches.ArgMatches.{ArgMatches}
 use Rattle.clap.specs.Words.{found_of, matched_of, raw_values}
@@ -41,9 +41,7 @@ number_one (kind.Number low high default) [] n m h k = h ∙ sym k
 number_one (kind.Number low high default) (x ∷ []) n m h k = sym h.value ∙ k.value
 number_one (kind.Number low high default) (x ∷ y ∷ more) n m h k = absurd h
 number_one (kind.MaybeNumber low high) values n m h k = absurd h
-number_one kind.MaybeAddress values n m h k = absurd h
-number_one (kind.File access) values n m h k = absurd h
-number_one kind.Flag values n m h k = absurd h
+number_one other values n m h k = absurd h
 
 pub says_one : (g : Given) (s : Setting) (n m : ℕ) → SaysNumber g s n → SaysNumber g s m → n ≡ m
 says_one g s n m h k = number_one (kind_of s) (g (name_of s)) n m h k
@@ -74,12 +72,9 @@ number_few (kind.Number low high default) [] n lt h = omega (arith, lt)
 number_few (kind.Number low high default) (x ∷ []) n lt h = omega (arith, lt)
 number_few (kind.Number low high default) (x ∷ y ∷ more) n lt h = h
 number_few (kind.MaybeNumber low high) values n lt h = h
-number_few kind.MaybeAddress values n lt h = h
-number_few (kind.File access) values n lt h = h
-number_few kind.Flag values n lt h = h
+number_few other values n lt h = h
 
-pub says_few : (g : Given) (s : Setting) (n : ℕ) → 1 < length (g (name_of s)) → SaysNumber g s n
-    → ⊥
+pub says_few : (g : Given) (s : Setting) (n : ℕ) → 1 < length (g (name_of s)) → SaysNumber g s n → ⊥
 says_few g s n lt h = number_few (kind_of s) (g (name_of s)) n lt h
 
 -- an option names one file, or none
@@ -116,9 +111,7 @@ maybe_one (kind.MaybeNumber low high) [] n m h k = h ∙ sym k
 maybe_one (kind.MaybeNumber low high) (x ∷ []) n m h k =
     h.2 ∙ ap (λ i. Some i) (sym h.1.value ∙ k.1.value) ∙ sym k.2
 maybe_one (kind.MaybeNumber low high) (x ∷ y ∷ more) n m h k = absurd h
-maybe_one kind.MaybeAddress values n m h k = absurd h
-maybe_one (kind.File access) values n m h k = absurd h
-maybe_one kind.Flag values n m h k = absurd h
+maybe_one other values n m h k = absurd h
 
 pub maybes_one : (g : Given) (s : Setting) (n m : Option ℕ) → SaysMaybe g s n → SaysMaybe g s m
     → n ≡ m
@@ -129,24 +122,13 @@ pub maybe_by : (g : Given) (s : Setting) (values : List (List ℕ)) (k : Kind) (
 maybe_by g s values k n e f h =
     subst (λ vs. IsMaybeOf (kind_of s) vs n) (sym e) (subst (λ x. IsMaybeOf x values n) (sym f) h)
 
-pub maybe_unread : (g : Given) (s : Setting) (word : List ℕ) (low high : ℕ) (n : Option ℕ)
-    → g (name_of s) ≡ word ∷ [] → kind_of s ≡ kind.MaybeNumber low high
-    → ((n : ℕ) → IsNumber low high word n → ⊥) → SaysMaybe g s n → ⊥
-maybe_unread g s word low high n e k none says =
-    let given : IsMaybeOf (kind.MaybeNumber low high) (word ∷ []) n =
-    subst (λ x. IsMaybeOf x (word ∷ []) n) k
-    (subst (λ vs. IsMaybeOf (kind_of s) vs n) e says) in
-    none given.0 given.1
-
 many_maybe : (k : Kind) (values : List (List ℕ)) (n : Option ℕ) → 1 < length values
     → IsMaybeOf k values n → ⊥
 many_maybe (kind.Number low high default) values n lt h = h
 many_maybe (kind.MaybeNumber low high) [] n lt h = omega (arith, lt)
 many_maybe (kind.MaybeNumber low high) (x ∷ []) n lt h = omega (arith, lt)
 many_maybe (kind.MaybeNumber low high) (x ∷ y ∷ more) n lt h = h
-many_maybe kind.MaybeAddress values n lt h = h
-many_maybe (kind.File access) values n lt h = h
-many_maybe kind.Flag values n lt h = h
+many_maybe other values n lt h = h
 
 pub maybe_few : (g : Given) (s : Setting) (n : Option ℕ) → 1 < length (g (name_of s))
     → SaysMaybe g s n → ⊥
@@ -207,8 +189,7 @@ one_file f (w ∷ x ∷ more) h = absurd h.1
 
 pub placed_file : (f : List ℕ) (words : List (List ℕ)) → IsOne f words
     → ArePlaced (Read (Some f) ∷ []) words
-placed_file f words h =
-    subst (ArePlaced (Read (Some f) ∷ [])) (sym h.0) ((h.1, refl), tt)
+placed_file f words h = subst (ArePlaced (Read (Some f) ∷ [])) (sym h.0) ((h.1, refl), tt)
 
 pub same_file : (x y : List ℕ) (words : List (List ℕ)) → ArePlaced (Read (Some x) ∷ []) words
     → ArePlaced (Read (Some y) ∷ []) words → x ≡ y
@@ -285,10 +266,6 @@ seed_and_file n y (w ∷ v ∷ []) h =
     (w, ((cc), h.0.digits.0, subst (λ z. 0 < length z) (sym other) h.1.0.0), h.0)
 seed_and_file n y (w ∷ v ∷ u ∷ more) h = absurd h.1.1
 
-pub placed_seed : (word : List ℕ) (n : ℕ) (y : List ℕ) (words : List (List ℕ))
-    → AreTwo word y words → IsSeedWord word n → ArePlacedSeed n y words
-placed_seed word n y words e h = subst (ArePlacedSeed n y) (sym e.0) (h, ((e.2, refl), tt))
-
 same_seeds : (n m : ℕ) (y w : List ℕ) (words : List (List ℕ)) → ArePlacedSeed n y words
     → ArePlacedSeed m w words → (n ≡ m) × (y ≡ w)
 same_seeds n m y w words h k =
@@ -299,10 +276,6 @@ same_seeds n m y w words h k =
       sym (subst (λ x. IsSeedWord x n) word one.2).value ∙ other.2.value,
       ap (λ xs. get_or xs 1 []) e,
     )
-
--- commands of one word are of one kind
-pub other_first : (v w : List ℕ) → v ≡ w → get_or v 0 0 ≢ get_or w 0 0 → ⊥
-other_first v w e h = h (ap (λ x. get_or x 0 0) e)
 
 -- a command, by its word and its arguments
 abbrev pub Arguments : CommandWord → Type 0
@@ -350,13 +323,7 @@ arguments_of (Assemble a) = (a, refl)
 
 pub word_is : (c : Command) → text_of (command_word c) ≡ (row_of c).word
 word_is (Rewrite a) = refl
-word_is (Run a) = refl
-word_is (Listing a) = refl
-word_is (One a) = refl
-word_is (Sim a) = refl
-word_is (Replay a) = refl
-word_is (Generate a) = refl
-word_is (Assemble a) = refl
+word_is other = refl
 
 -- commands differ in their words
 abbrev command_words : List CommandWord
@@ -369,13 +336,7 @@ word_at text = unwrap_or (find (λ w. bytes_eq (text_of w) text) command_words) 
 
 word_found : (w : CommandWord) → word_at (text_of w) ≡ w
 word_found word.Rewrite = refl
-word_found word.Run = refl
-word_found word.List = refl
-word_found word.One = refl
-word_found word.Sim = refl
-word_found word.Replay = refl
-word_found word.Generate = refl
-word_found word.Assemble = refl
+word_found other = refl
 
 same_word : (v w : CommandWord) → text_of v ≡ text_of w → v ≡ w
 same_word v w e = sym (word_found v) ∙ ap word_at e ∙ word_found w
@@ -558,13 +519,7 @@ one_row g c d p q e =
 settings_by : (w : CommandWord) (a : Arguments w)
     → valued (row_of (command w a)).options ≡ offered (settings_of w)
 settings_by word.Rewrite a = refl
-settings_by word.Run a = refl
-settings_by word.List a = refl
-settings_by word.One a = refl
-settings_by word.Sim a = refl
-settings_by word.Replay a = refl
-settings_by word.Generate a = refl
-settings_by word.Assemble a = refl
+settings_by other a = refl
 
 word_settings : (w : CommandWord) (c : Command) → text_of w ≡ (row_of c).word
     → valued (row_of c).options ≡ offered (settings_of w)
@@ -590,8 +545,7 @@ behind first rest words w c e f h =
     }
 
 completed : (w : CommandWord) (rest words : List (List ℕ)) (c : Command) (m : ArgMatches)
-    → Reads (settings_of w) rest m → IsBehind w rest words c
-    → Completes (text_of w) (given_by m) c
+    → Reads (settings_of w) rest m → IsBehind w rest words c → Completes (text_of w) (given_by m) c
 completed w rest words c m r h =
     let xs = h.asks.of_row.arguments in
     let same = same_cut (settings_of w) rest r.arguments xs r.is_cut h.is_cut in
@@ -624,10 +578,8 @@ only_one words c d p q =
     let same = same_cut (settings_of w) _ xs q.of_row.arguments b.is_cut k.is_cut in
     one_row (given_of xs) c d
     (row_given (row_of c) (settings_of w) words (given_of xs) (word_settings w c (word_is c))
-    p.of_row (gives xs))
-    (row_given (row_of d) (settings_of w) words (given_of xs)
-    (word_settings w d (sym k.word_is)) q.of_row
-    (λ x. gives xs x ∙ ap (words_for x) same))
+    p.of_row (gives xs)) (row_given (row_of d) (settings_of w) words (given_of xs)
+    (word_settings w d (sym k.word_is)) q.of_row (λ x. gives xs x ∙ ap (words_for x) same))
     (sym (k.word_is ∙ word_is c))
 
 pub answers : (first : List ℕ) (rest words : List (List ℕ)) (w : CommandWord) (m : ArgMatches)

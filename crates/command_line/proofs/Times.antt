@@ -112,8 +112,7 @@ most_few g n lt h = few_most (g (name_of Nodes)) n lt h
 
 -- what is given says of `speedup` one thing
 pub one_speedup : (g : Given) (a b : TimeArguments) (x y : List ℕ)
-    → IsOfRow (view_row (Speedup a x)) g → IsOfRow (view_row (Speedup b y)) g
-    → (a ≡ b) × (x ≡ y)
+    → IsOfRow (view_row (Speedup a x)) g → IsOfRow (view_row (Speedup b y)) g → (a ≡ b) × (x ≡ y)
 one_speedup g a b x y p q =
     let files = same_files a.file x b.file y _ p.places q.places in
     let nodes = number_one (kind.Number 1 16 16) (g (name_of Nodes)) a.nodes b.nodes p.options.0

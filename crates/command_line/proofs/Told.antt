@@ -52,19 +52,16 @@ filled_by : (valued : Bool) (name : List ℕ) (settings : List Setting) →
 filled_by true name settings e = ap (λ xs. option_rule true name ∷ xs) e
 filled_by false name settings e = ap (λ xs. option_rule false name ∷ xs) e
 
-filled_rules : (settings : List Setting) → filled_from 2 (map rule_for settings)
-    ≡ map rule settings
+filled_rules : (settings : List Setting) → filled_from 2 (map rule_for settings) ≡ map rule settings
 filled_rules [] = refl
-filled_rules (s ∷ settings) =
-    filled_by (is_valued s) (name_of s) settings (filled_rules settings)
+filled_rules (s ∷ settings) = filled_by (is_valued s) (name_of s) settings (filled_rules settings)
 
 abbrev app_of_rules : List Rule → App
 app_of_rules rs = record { top = record (shape []) { rules = rs }; subs = [] }
 
 pub built_is : (settings : List Setting) → built (app_for settings)
     ≡ record { top = shape settings; subs = [] }
-built_is settings =
-    ap (λ rs. app_of_rules (operands ∷ rs)) (filled_rules settings)
+built_is settings = ap (λ rs. app_of_rules (operands ∷ rs)) (filled_rules settings)
 
 -- the command is simple, and no argument has a rule on another
 each : (p : Rule → Bool) → ((valued : Bool) (name : List ℕ) → p (option_rule valued name) ≡ true) →
@@ -158,8 +155,7 @@ by_long settings s b h =
 pub by_id : (settings : List Setting) (s : Setting) (b : Bool) → HasOption settings s b →
     arg_by_id (rules settings) (name_of s) ≡ Some (option_rule b (name_of s))
 by_id settings s b h =
-    rw (no_operand s)
-    (find_id settings (name_of s)
+    rw (no_operand s) (find_id settings (name_of s)
     ∙ ap (λ w. option_map rule (option_of settings w)) (sym (dashed s))
     ∙ ap (option_map rule) h.there ∙ rule_at s b h.kind)
 
@@ -216,8 +212,7 @@ ready settings =
 
 free : (settings : List Setting) →
     is_free_app (record { top = shape settings; subs = [] }) ≡ true
-free settings =
-    and_true _ _ (each (λ (a : Rule). a.is_free) free_by settings) refl
+free settings = and_true _ _ (each (λ (a : Rule). a.is_free) free_by settings) refl
 
 abbrev is_ready_app : App → Bool
 is_ready_app a = is_ready a.top

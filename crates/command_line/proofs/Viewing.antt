@@ -6,7 +6,7 @@ use Rattle.command_line.specs.declared.table.Setting.TheVariants.{Verify, NoBatc
 use Rattle.command_line.specs.declared.table.ViewWord.{ViewWord}
 use Rattle.command_line.specs.declared.table.ViewWord.TheVariants as word
 use Rattle.command_line.specs.declared.view.View.{View as OfCode}
-use Rattle.command_line.specs.Asks.{Argument, ArePlaced, valued}
+use Rattle.command_line.specs.Asks.{ArePlaced, valued}
 use Rattle.command_line.specs.Views.{View, CodeArguments, RecordedFiles, TimeArguments, Help, Code, Trace, Blocks, Page, Time, Cost, Gdb, Speedup, AsksView, IsFitView, code_options, meaning_of_view, view_row}
 use Rattle.command_line.specs.Table.{name_of, offered, view_settings, view_text}
 use Rattle.command_line.specs.Reading.{AreGiven, IsCut, IsOfRow, IsViewGiven, Reads, given_by, words_for}
@@ -71,14 +71,7 @@ arguments_of (Gdb run memory) = ((run, memory), refl)
 
 pub word_is : (v : View) → view_text (view_word v) ≡ (view_row v).word
 word_is Help = refl
-word_is (Code a) = refl
-word_is (Trace run from to block node) = refl
-word_is (Blocks run) = refl
-word_is (Page run output from to) = refl
-word_is (Time a) = refl
-word_is (Cost a record_file) = refl
-word_is (Speedup a output) = refl
-word_is (Gdb run memory) = refl
+word_is other = refl
 
 -- views differ in their words
 abbrev view_words : List ViewWord
@@ -91,21 +84,13 @@ word_at text = unwrap_or (find (λ w. bytes_eq (view_text w) text) view_words) w
 
 word_found : (w : ViewWord) → word_at (view_text w) ≡ w
 word_found word.Help = refl
-word_found word.Code = refl
-word_found word.Trace = refl
-word_found word.Blocks = refl
-word_found word.Page = refl
-word_found word.Time = refl
-word_found word.Cost = refl
-word_found word.Speedup = refl
-word_found word.Gdb = refl
+word_found other = refl
 
 same_word : (v w : ViewWord) → view_text v ≡ view_text w → v ≡ w
 same_word v w e = sym (word_found v) ∙ ap word_at e ∙ word_found w
 
 of_word : (w : ViewWord) (v : View) → view_text w ≡ (view_row v).word → IsWhole v w
-of_word w v e =
-    subst (IsWhole v) (same_word (view_word v) w (word_is v ∙ sym e)) (arguments_of v)
+of_word w v e = subst (IsWhole v) (same_word (view_word v) w (word_is v ∙ sym e)) (arguments_of v)
 
 -- what is given of a word is a view of that word
 pub record IsOf (w : ViewWord) (g : Given) (a : Arguments w) : Type 0 where
@@ -155,12 +140,10 @@ one_of_word g word.Trace (run, from, to, block, node) (run', from', to', block',
     let files = same_read run.file run.record_file run'.file run'.record_file _ p.places q.places in
     let verified = names_one g Verify run.verified run'.verified p.options.0 q.options.0 in
     let same = one_run run run' files.0 files.1 verified in
-    ap (λ x. Trace x from to block node) same
-    ∙ ap (λ x. Trace run' x to block node)
+    ap (λ x. Trace x from to block node) same ∙ ap (λ x. Trace run' x to block node)
     (maybes_one g From from from' p.options.1.0 q.options.1.0)
     ∙ ap (λ x. Trace run' from' x block node)
-    (maybes_one g To to to' p.options.1.1.0 q.options.1.1.0)
-    ∙ ap (λ x. Trace run' from' to' x node)
+    (maybes_one g To to to' p.options.1.1.0 q.options.1.1.0) ∙ ap (λ x. Trace run' from' to' x node)
     (at_one (g (name_of Block)) block block' p.options.1.1.1.0 q.options.1.1.1.0)
     ∙ ap (λ x. Trace run' from' to' block' x)
     (maybes_one g Node node node' p.options.1.1.1.1.0 q.options.1.1.1.1.0)
@@ -174,10 +157,8 @@ one_of_word g word.Page (run, output, from, to) (run', output', from', to') p q 
     let verified = names_one g Verify run.verified run'.verified p.options.0 q.options.0 in
     let same = one_run run run' files.0 files.1 verified in
     ap (λ x. Page x output from to) same ∙ ap (λ x. Page run' x from to) files.2
-    ∙ ap (λ x. Page run' output' x to)
-    (maybes_one g From from from' p.options.1.0 q.options.1.0)
-    ∙ ap (λ x. Page run' output' from' x)
-    (maybes_one g To to to' p.options.1.1.0 q.options.1.1.0)
+    ∙ ap (λ x. Page run' output' x to) (maybes_one g From from from' p.options.1.0 q.options.1.0)
+    ∙ ap (λ x. Page run' output' from' x) (maybes_one g To to to' p.options.1.1.0 q.options.1.1.0)
 one_of_word g word.Time a b p q = ap (λ x. Time x) (one_time g a b p q)
 one_of_word g word.Cost (a, record_file) (b, record_file') p q =
     let files = same_one_or_two a.file b.file record_file record_file' _ p.places q.places in
@@ -205,14 +186,7 @@ one_view g v w p q e =
 settings_by : (w : ViewWord) (a : Arguments w)
     → valued (view_row (view w a)).options ≡ offered (view_settings w)
 settings_by word.Help a = refl
-settings_by word.Code a = refl
-settings_by word.Trace a = refl
-settings_by word.Blocks a = refl
-settings_by word.Page a = refl
-settings_by word.Time a = refl
-settings_by word.Cost a = refl
-settings_by word.Speedup a = refl
-settings_by word.Gdb a = refl
+settings_by other a = refl
 
 word_settings : (w : ViewWord) (v : View) → view_text w ≡ (view_row v).word
     → valued (view_row v).options ≡ offered (view_settings w)
@@ -271,8 +245,7 @@ only_one words v w p q =
     let same = same_cut (view_settings x) _ xs q.of_row.arguments b.is_cut k.is_cut in
     one_view (given_of xs) v w
     (row_given (view_row v) (view_settings x) words (given_of xs) (word_settings x v (word_is v))
-    p.of_row (gives xs))
-    (row_given (view_row w) (view_settings x) words (given_of xs)
+    p.of_row (gives xs)) (row_given (view_row w) (view_settings x) words (given_of xs)
     (word_settings x w (sym k.word_is)) q.of_row (λ r. gives xs r ∙ ap (words_for r) same))
     (sym (k.word_is ∙ word_is v))
 
@@ -286,11 +259,3 @@ answers first rest words w m None e f reads h = λ v k.
     h v (given w rest words v m reads (behind first rest words w v e f k))
 answers first rest words w m (Some x) e f reads h =
     asked first rest words w (meaning_of_view x) m e f reads h
-
-pub answers_none : (first : List ℕ) (rest words : List (List ℕ)) (w : ViewWord)
-    → words ≡ first ∷ rest → view_text w ≡ first
-    → ((arguments : List Argument) → IsCut (view_settings w) rest arguments → ⊥)
-    → (v : View) → AsksView words v → ⊥
-unfolding behind
-answers_none first rest words w e f none v h =
-    let b = behind first rest words w v e f h in none h.of_row.arguments b.is_cut

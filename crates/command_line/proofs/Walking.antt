@@ -167,8 +167,7 @@ module _ (settings : List Setting) where
 
   -- what is given to an argument is settled
   settled_value : (name value : List ℕ) (h : Held) → arg_by_id c name ≡ Some (option_rule true name) →
-      (settle_fault c false (valued name value h) ≡ [])
-      × ((settled c (valued name value h)).rows
+      (settle_fault c false (valued name value h) ≡ []) × ((settled c (valued name value h)).rows
       ≡ with_values name AsWritten CommandLine (value ∷ []) (settled c h).rows)
   settled_value name value h e = (rw e refl, rw e refl)
 
@@ -206,8 +205,7 @@ module _ (settings : List Setting) where
           let none : arg_by_long c name ≡ None =
           long_rule settings name ∙ ap (option_map rule) is in
           (UnknownArgument, rw (q.dashes, q.long, none) refl)
-      go (Some s) is u q =
-          by (is_valued s) u q (long_rule settings name ∙ ap (option_map rule) is)
+      go (Some s) is u q = by (is_valued s) u q (long_rule settings name ∙ ap (option_map rule) is)
         where
           by : (b : Bool) (u : Option (List ℕ)) → Long word name u →
               arg_by_long c name ≡ Some (option_rule b (name_of s)) →

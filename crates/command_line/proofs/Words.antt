@@ -201,15 +201,13 @@ found_by : (s t : Setting) (ts : List Setting) (b : Bool)
     → (b ≡ false → option_of ts (option_word s) ≡ Some s)
     → cond b (Some t) (option_of ts (option_word s)) ≡ Some s
 found_by s t ts true e more =
-    ap (λ x. Some x)
-    (same_setting t s ((bytes_eq-Decides (option_word t) (option_word s)).0 e))
+    ap (λ x. Some x) (same_setting t s ((bytes_eq-Decides (option_word t) (option_word s)).0 e))
 found_by s t ts false e more = more refl
 
 found : (s : Setting) (ts : List Setting) → IsAmong s ts → option_of ts (option_word s) ≡ Some s
 found s [] h = absurd h
 found s (t ∷ ts) (inl h) =
-    found_by s t ts (bytes_eq (option_word t) (option_word s)) refl
-    (λ no.
+    found_by s t ts (bytes_eq (option_word t) (option_word s)) refl (λ no.
     let yes = (bytes_eq-Decides (option_word t) (option_word s)).1 (ap option_word h) in
     let bad : true ≡ false = sym yes ∙ no in absurd (cc))
 found s (t ∷ ts) (inr h) =

@@ -5,7 +5,7 @@ use Rattle.std.specs.Str.Parse.{IsNumeral, digits_value}
 use Rattle.command_line.specs.Tasks.{Task, Saying, Number, MaybeNumber, MaybeAddress, Read, Write, Flag, Row, task_row, IsFitTask}
 use Rattle.command_line.specs.Commands.{Command, row_of, IsFit}
 
--- an argument behind the command's word: an operand, which is a word of its own; or an option, by
+-- an argument after the command's word: an operand, which is a word of its own; or an option, by
 -- its word, with its value, as two words or as one; or a flag
 pub data Argument : Type 0 where
   Operand : (word : List ℕ) → Argument
@@ -64,7 +64,7 @@ pub record IsNumber (low high : ℕ) (word : List ℕ) (number : ℕ) : Type 0 w
   pub above : low ≤ number
   pub below : number ≤ high
 
--- a word is an address, in 1 to 8 hexadecimal digits of either case behind 0x
+-- a word is an address, in 1 to 8 hexadecimal digits of either case after 0x
 pub record IsAddress (word : List ℕ) (address : ℕ) : Type 0 where
   pub digits : List ℕ
   pub word_is : word ≡ codes "0x" ++ digits
@@ -95,7 +95,7 @@ ArePlaced [] [] = Unit {0}
 ArePlaced (place ∷ places) (word ∷ words) = IsSaid place (word ∷ []) × ArePlaced places words
 ArePlaced places words = ⊥
 
--- the words are the row's, and arguments behind it, in any order, that say what the row says
+-- the words are the row's, and arguments after it, in any order, that say what the row says
 pub record AreOfRow (row : Row) (words : List (List ℕ)) : Type 0 where
   pub arguments : List Argument
   pub words_are : words ≡ row.word ∷ flat_map words_of arguments

@@ -2,7 +2,6 @@ pub mod Asks
 pub mod Commands
 pub mod Costs
 pub mod Meaning
-pub mod Megabytes
 pub mod Tasks
 pub mod Reading
 pub mod Table

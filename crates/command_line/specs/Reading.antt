@@ -176,7 +176,7 @@ pub record AreOfTime (given : List ℕ → List (List ℕ)) (a : TimeArguments) 
 abbrev pub SaysMost : (List ℕ → List (List ℕ)) → ℕ → Type 0
 SaysMost given number = IsSaid (Number 1 16 16 number) (given (name_of Nodes))
 
--- two dashes and more behind them
+-- two dashes and more after them
 pub record IsLong (word : List ℕ) : Type 0 where
   pub more : 2 < length word
   pub first : slice_index word 0 ≡ 45

@@ -19,16 +19,12 @@ use run_limits::{Budget, LaneCount, NodeCount};
 use std::alloc::{AllocError, Global};
 use table::{CommandWord, Kind, Role, Setting};
 
-mod cost;
-mod megabytes;
 mod number;
 mod parsing;
 mod table;
 mod view;
 
-pub use cost::Cost;
-pub use megabytes::Megabytes;
-pub use view::{CodeArguments, RecordedFiles, TimeArguments, View, view_of};
+pub use view::{CodeArguments, Cost, Megabytes, RecordedFiles, TimeArguments, View, view_of};
 
 /// What the program is to do.
 #[derive(Clone, Copy)]
@@ -153,14 +149,14 @@ pub struct AssembleArguments<'a> {
 }
 
 /// What the nodes of a run by an order, and the links between them, are like.
-#[derive(Clone, Copy, Debug, PartialEq, Eq)]
+#[derive(Clone, Copy, PartialEq, Eq)]
 pub enum Machine {
     /// Each node is one processor, and the links lose nothing.
     Plain,
     /// Each node is one processor, and the links lose packets, by the order of a number.
     Lossy(u32),
-    /// Each node has so many processors, at most 16 with those of the other nodes; and the links
-    /// lose nothing.
+    /// Each node has this number of processors, at most 16 with those of the other nodes; and the
+    /// links lose nothing.
     Lanes(LaneCount),
 }
 
@@ -176,7 +172,7 @@ fn file_in<'a>(matches: &ArgMatches<'a>) -> Option<&'a str>
     }
 }
 
-/// The two operands, neither of which is empty.
+/// The two operands. Neither is empty.
 fn two_operands_in<'a>(matches: &ArgMatches<'a>) -> Option<(&'a str, &'a str)>
     ensures { MatchOption result
         ((f g : List ℕ) → AreTwo f g (given_by matches.now (id_of Role.Operand)) → ⊥)
@@ -345,7 +341,7 @@ fn lanes_in(matches: &ArgMatches<'_>) -> Option<Option<LaneCount>>
     }
 }
 
-/// The machine of so many nodes with this loss and so many processors each, where there is one.
+/// The machine of `nodes` nodes with this loss and `lanes` processors each, where there is one.
 fn machine_of(nodes: NodeCount, loss: Option<u32>, lanes: Option<LaneCount>) -> Option<Machine>
     ensures { MatchOption result (AreFew nodes loss lanes → ⊥) (λ m. AreFew nodes loss lanes
         × (loss_of m ≡ loss) × (lanes_of m ≡ lanes)) }

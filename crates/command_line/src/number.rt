@@ -28,7 +28,7 @@ fn most_digits(high: u64) -> usize
     if high <= 1 << 32 { 10 } else { 17 }
 }
 
-/// The address that 1 to 8 hexadecimal digits behind `0x` write.
+/// The address that 1 to 8 hexadecimal digits after `0x` write.
 pub(crate) fn address_of(text: &str) -> Option<u32>
     ensures { MatchOption result ((a : ℕ) → IsAddress text.now a → ⊥)
         (λ a. IsAddress text.now a) }
@@ -43,7 +43,7 @@ pub(crate) fn address_of(text: &str) -> Option<u32>
     }
 }
 
-/// What stands behind `0x`.
+/// What stands after `0x`.
 fn behind_mark(text: &str) -> Option<&str>
     ensures { MatchOption result ((digits : List ℕ) → text.now ≢ codes "0x" ++ digits)
         (λ digits. text.now ≡ codes "0x" ++ digits.now) }

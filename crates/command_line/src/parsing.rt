@@ -1,4 +1,4 @@
-//! The arguments behind a command's word, as `clap` reads them.
+//! The arguments after a command's word, as `clap` reads them.
 
 ghost use Rattle.std.specs.Prelude.{◌≡◌, ◌↔◌, [], ℕ, List, IsTrue, IfOk, MatchOption};
 ghost use Rattle.std.specs.Prelude.{false};
@@ -118,7 +118,7 @@ pub(crate) fn given_for<'a>(matches: &ArgMatches<'a>, role: Role) -> Given<'a>
     }
 }
 
-/// The three operands, none of which is empty.
+/// The three operands. None is empty.
 pub(crate) fn three_operands_in<'a>(matches: &ArgMatches<'a>) -> Option<(&'a str, &'a str, &'a str)>
     ensures { MatchOption result
         ((f g h : List ℕ) → AreThree f g h (given_by matches.now (id_of Role.Operand)) → ⊥)

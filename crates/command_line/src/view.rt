@@ -9,8 +9,6 @@ ghost use Rattle.command_line.specs.Views.{CodeArguments as AskedCode, TimeArgum
 ghost use Rattle.command_line.specs.Views.{View as Asked, AsksView};
 ghost use Rattle.command_line.specs.Views.{code_of, meaning_of_view, time_of as asked_time};
 
-use crate::cost::Cost;
-use crate::megabytes::Megabytes;
 use crate::number::address_of;
 use crate::parsing::{Given, arguments_in, given_for, three_operands_in};
 use crate::table::{Kind, Role, Setting, ViewWord};
@@ -20,11 +18,17 @@ use crate::{
 };
 use clap::ArgMatches;
 use dsm_io::Text;
-use run_limits::{Budget, NodeCount};
+use run_limits::{Budget, NodeCount, Ranged};
 use std::alloc::{AllocError, Global};
 
+/// What a message costs, in the time of one word.
+pub type Cost = Ranged<0, 1_000_000>;
+
+/// How much room checkpoints may take, in megabytes.
+pub type Megabytes = Ranged<0, 1_000_000>;
+
 /// What the viewer is to do.
-#[derive(Clone, Copy, Debug, PartialEq, Eq)]
+#[derive(Clone, Copy, PartialEq, Eq)]
 pub enum View<'a> {
     /// Tell how the viewer is called.
     Help,
@@ -74,7 +78,7 @@ pub enum View<'a> {
 }
 
 /// What `code` and `cost` are given.
-#[derive(Clone, Copy, Debug, PartialEq, Eq)]
+#[derive(Clone, Copy, PartialEq, Eq)]
 pub struct CodeArguments<'a> {
     /// The file of the executable.
     pub file: &'a str,
@@ -85,7 +89,7 @@ pub struct CodeArguments<'a> {
 }
 
 /// The files of a recorded run.
-#[derive(Clone, Copy, Debug, PartialEq, Eq)]
+#[derive(Clone, Copy, PartialEq, Eq)]
 pub struct RecordedFiles<'a> {
     /// The file of the executable.
     pub file: &'a str,
@@ -95,8 +99,8 @@ pub struct RecordedFiles<'a> {
     pub verified: Option<&'a str>,
 }
 
-/// What `time` is given, and `speedup`, whose runs are of 1 node up to so many.
-#[derive(Clone, Copy, Debug, PartialEq, Eq)]
+/// What `time` is given, and `speedup`, whose runs are of 1 node up to that number.
+#[derive(Clone, Copy, PartialEq, Eq)]
 pub struct TimeArguments<'a> {
     /// The file of the executable, whose rewritten code the nodes run.
     pub file: &'a str,

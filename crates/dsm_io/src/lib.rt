@@ -73,7 +73,7 @@ pub trait Files {
     /// have failed.
     ghost state: { Self → FilesState };
 
-    /// Gives the bytes of the file, of which there are at most `limit`.
+    /// Gives the bytes of the file, at most `limit`.
     ///
     /// `TooLong` comes for a file that is longer, and `Failed` where it cannot be read.
     fn read(&mut self, alloc: Global, name: &str, limit: u64) -> Result<Vec<u8>, FileError>
@@ -139,7 +139,7 @@ pub trait Sink {
 
     /// Appends the whole piece.
     ///
-    /// A piece that is not empty and of which nothing is taken is a fault. After `OutOfMemory`
+    /// It is a fault where a piece isn't empty and nothing of it is taken. After `OutOfMemory`
     /// nothing of it is taken.
     fn put(&mut self, piece: &[u8]) -> Result<(), SinkError>
         ensures takes { OnOk result

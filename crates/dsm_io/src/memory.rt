@@ -1,7 +1,7 @@
 //! Files and a sink in memory, of whose calls some are to fail.
 
 ghost use Rattle.std.specs.Prelude.{◌≡◌, ◌≢◌, ◌<◌, ◌≤◌, ◌↔◌, ◌⊎◌, ◌++◌, ℕ, List, [], map, length};
-ghost use Rattle.std.specs.Prelude.{IfOk, IfSome, OnOk, OnErr, IsErr, IsErrOf};
+ghost use Rattle.std.specs.Prelude.{option_copied, IfOk, IfSome, OnOk, OnErr, IsErr, IsErrOf};
 ghost use Rattle.dsm_io.specs.Pairs.{first_content, content_of, Writes};
 ghost use Rattle.dsm_io.specs.Schedule.{IsDue, schedule_of, after_call, after_fault};
 
@@ -30,8 +30,8 @@ impl Model for MemFiles {
 }
 
 impl MemFiles {
-    /// Files of these names and contents, of which the first pair of a name counts, and the numbers
-    /// of the calls that are to fail.
+    /// Files of these names and contents, and the numbers of the calls that are to fail. The first
+    /// pair of a name counts.
     pub fn new(alloc: Global, held: Vec<(Text, Vec<u8>)>, fails: Vec<u64>) -> MemFiles
         ensures held { (n : List ℕ) →
             (⟦<MemFiles as Files>⟧.state result).held n ≡ Some (content_of result.pairs n) }
@@ -42,6 +42,15 @@ impl MemFiles {
             store: Store::new(alloc, held),
             schedule: Schedule::new(fails),
         }
+    }
+
+    /// What the name holds, or `None` where it has no file.
+    pub fn held(&self, name: &str) -> Option<&[u8]>
+        ensures first { option_copied result ≡ first_content self.now.pairs name.now }
+        ensures held { IfSome result (λ bytes.
+            (⟦<MemFiles as Files>⟧.state self.now).held name.now ≡ Some bytes.now) }
+    {
+        self.store.content(name)
     }
 }
 

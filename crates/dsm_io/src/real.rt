@@ -60,7 +60,7 @@ impl Files for RealFiles {
     }
 }
 
-/// The bytes of a file, of which no more than one past the limit are read.
+/// The bytes of a file. No more than one past the limit are read.
 fn read_file(rt: &HostRuntime, alloc: Global, name: &str, limit: u64) -> io::Result<Vec<u8>> {
     let mut bytes = Vec::new(alloc);
     let file = File::open(rt, name)?;

@@ -7,7 +7,7 @@ use crate::Text;
 use std::alloc::{AllocError, Global};
 use std::marker::Model;
 
-/// Names and contents, of which the first pair of a name counts.
+/// Names and contents. The first pair of a name counts.
 #[derive(Drop)]
 pub(crate) struct Store {
     alloc: Global,

@@ -1,9 +1,9 @@
 //! Files and a sink in memory that never fail.
 
-ghost use Rattle.std.specs.Prelude.{◌≡◌, ◌≢◌, ◌<◌, ◌≤◌, ◌++◌, ℕ, List, [], length};
-ghost use Rattle.std.specs.Prelude.{IfOk, IfErr, OnOk, OnErr, IsErr, IsErrOf};
+ghost use Rattle.std.specs.Prelude.{◌≡◌, ◌≢◌, ◌<◌, ◌≤◌, ◌++◌, ℕ, List, [], length, option_copied};
+ghost use Rattle.std.specs.Prelude.{IfOk, IfSome, IfErr, OnOk, OnErr, IsErr, IsErrOf};
 ghost use Rattle.dsm_io.specs.Causes.{next_count};
-ghost use Rattle.dsm_io.specs.Pairs.{content_of, Writes};
+ghost use Rattle.dsm_io.specs.Pairs.{first_content, content_of, Writes};
 
 use crate::store::Store;
 use crate::{FileError, Files, Sink, SinkError};
@@ -35,6 +35,15 @@ impl SureFiles {
         SureFiles {
             store: Store::new(alloc, Vec::new(alloc)),
         }
+    }
+
+    /// What was last written to the name, or `None` where nothing was.
+    pub fn held(&self, name: &str) -> Option<&[u8]>
+        ensures first { option_copied result ≡ first_content self.now name.now }
+        ensures held { IfSome result (λ bytes.
+            (⟦<SureFiles as Files>⟧.state self.now).held name.now ≡ Some bytes.now) }
+    {
+        self.store.content(name)
     }
 }
 

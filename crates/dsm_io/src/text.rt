@@ -6,7 +6,7 @@ use std::convert::AsStr;
 use std::marker::Model;
 
 /// One word of the command line, which contracts see as its UTF-8 bytes.
-#[derive(Debug, Drop)]
+#[derive(Drop)]
 pub struct Text {
     word: String,
 }

@@ -32,9 +32,9 @@ pub fn layout_for(
 {
     let ranges = program.shared_ranges(alloc)?;
     let Some(text) = text else {
-        return Ok(default_layout(alloc, &ranges, nodes.number())?);
+        return Ok(default_layout(alloc, &ranges, nodes.as_u8())?);
     };
-    match read_layout(alloc, text, &ranges, nodes.number()) {
+    match read_layout(alloc, text, &ranges, nodes.as_u8()) {
         Ok(layout) => Ok(layout),
         Err(LayoutRefused::Broken { rule, line }) => {
             Err(Failure::Layout(layout_line(alloc, rule, line)?))

@@ -129,6 +129,5 @@ run_whole program layout budget n s e turns fits ends is =
       });
       steps_are = sym (length_of n);
       end_is = ap (λ (t : State). end_by budget (t.processors 0).exit ∷ [])
-          (sym (run_is o n first) ∙ sym turns.state)
-          ∙ ap (λ x. x ∷ []) (sym is);
+          (sym (run_is o n first) ∙ sym turns.state) ∙ ap (λ x. x ∷ []) (sym is);
     }

@@ -13,14 +13,14 @@ use run_limits::{Budget, NodeCount};
 use std::alloc::{AllocError, Global};
 
 /// How many steps the processor makes, and how it ends.
-#[derive(Clone, Copy, Debug, PartialEq, Eq)]
+#[derive(Clone, Copy, PartialEq, Eq)]
 pub struct LoneRun {
     pub steps: u64,
     pub end: End,
 }
 
 /// Runs one processor of a program, whose shared lines have these blocks, to its end: by itself, or
-/// after so many steps. Fails only where memory runs out.
+/// after `budget` steps. Fails only where memory runs out.
 pub fn run_alone(
     alloc: Global,
     program: &Program<'_>,

@@ -10,14 +10,14 @@ use std::marker::Model;
 ///
 /// The next choice is made before it is asked for, among as many as at the last time: so it is
 /// known by the time that a caller needs it, where it chooses among as many again.
-#[derive(Debug, Drop)]
+#[derive(Drop)]
 pub struct Order {
     number: u32,
     /// The number that follows.
     ahead: u32,
     /// Among how many the next choice was made.
     count: u32,
-    /// The next choice among so many.
+    /// The next choice among a number of places.
     place: u32,
 }
 
@@ -71,9 +71,8 @@ impl Order {
         place
     }
 
-    /// Goes on by so many turns, as if the next choice had been asked for as often. The map of
-    /// twice as many turns is that of so many made twice, so this takes a step for each bit of
-    /// `turns`.
+    /// Goes on by `turns` turns, as if the next choice had been asked for as often. The map of
+    /// twice as many turns is the map made twice, so this takes a step for each bit of `turns`.
     pub fn skip(&mut self, turns: u64)
         ensures goes_on { self.new ≡ after_turns turns self.old }
     {
@@ -95,7 +94,7 @@ impl Order {
         self.place = choose(ahead, self.count);
     }
 
-    /// How often the next so many turns choose each place among `count`. The order stays where it
+    /// How often the next `turns` turns choose each place among `count`. The order stays where it
     /// is.
     pub fn tally(&self, turns: u32, count: u32) -> [u32; 16]
         requires some { 1 ≤ count }
@@ -112,7 +111,7 @@ impl Order {
         }
     }
 
-    /// How many turns, at most so many, choose a place among `count` no more often than `times`.
+    /// How many turns, at most `most`, choose a place among `count` no more often than `times`.
     pub fn turns_until(&self, place: u32, times: u64, count: u32, most: u32) -> u32
         requires some { 1 ≤ count }
         ensures most { result ≤ most }
@@ -151,7 +150,7 @@ fn after_two(number: u32) -> u32
     number.wrapping_mul(FACTOR_TWICE).wrapping_add(STEP_TWICE)
 }
 
-/// How often the turns behind a number choose each place among `count`, which is known where the
+/// How often the turns after a number choose each place among `count`, which is known where the
 /// call stands: a remainder by a power of two is then a mask. Each number is made from the last but
 /// one, so two of them are under way at a time.
 #[inline(always)]
@@ -193,7 +192,7 @@ fn tally_any(number: u32, turns: u32, count: u32) -> [u32; 16]
     tally
 }
 
-/// What a number chooses among so many.
+/// What a number chooses among `count`.
 #[inline(always)]
 fn choose(number: u32, count: u32) -> u32
     requires { 1 ≤ count }
@@ -202,7 +201,7 @@ fn choose(number: u32, count: u32) -> u32
     (number >> 16) % count
 }
 
-/// What a number is multiplied by in place of a division by so many.
+/// What a number is multiplied by in place of a division by `count`.
 fn reciprocal_of(count: u32) -> u64
     requires some { 1 ≤ count }
     ensures { result ≡ 2 ^ 32 / count + 1 }
@@ -210,8 +209,8 @@ fn reciprocal_of(count: u32) -> u64
     (1 << 32) / count as u64 + 1
 }
 
-/// What a number chooses among so many, by their reciprocal: a multiplication takes less time than
-/// a division.
+/// What a number chooses among `count`, by its reciprocal: a multiplication takes less time than a
+/// division.
 #[inline(always)]
 fn choose_by(number: u32, count: u32, reciprocal: u64) -> u32
     requires some { 1 ≤ count }

@@ -18,7 +18,7 @@ words_from i last zero = []
 words_from i last (suc k) =
     words_from i last k ++ record { stamp = last + suc k; event = Exec i } ∷ []
 
--- the takes of a journal, each behind the words that were executed before it
+-- the takes of a journal, each after the words that were executed before it
 abbrev pub events_in : (i last : ℕ) → List JournalEntry → List Stamped
 events_in i last [] = []
 events_in i last (e ∷ es) = words_from i last e.words

@@ -1,5 +1,7 @@
 #![tactic(auto)]
 //! The order of a core's events, by their stamps. There is no code here.
+//!
+//! It hands on [`node_model`], whose runs it puts in order.
 
 ghost use Rattle.std.specs.Prelude.{◌≡◌, ◌<◌, ◌≤◌, ◌++◌, ℕ, List, map, length, All};
 ghost use Rattle.node_model.specs.Node.{Work};
@@ -54,7 +56,7 @@ pub fn stamp_law()
 
 /// The law of journals, which the callers use by its clauses; the call does nothing.
 pub fn journal_law()
-    // After a core run the takes in each journal are one behind another, from nodes of the core,
+    // After a core run the takes in each journal are one after another, from nodes of the core,
     // with stamps that are no more than the number of events.
     ensures takes { (work : Work) (run : List Event) (i : ℕ)
         → IsCoreRun work (opening_core work) run → i < work.layout.nodes

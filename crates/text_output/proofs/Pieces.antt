@@ -131,10 +131,7 @@ refused_too Reason OfLayout Why WhyLayout (Input line) reasons layouts h = h
 refused_too Reason OfLayout Why WhyLayout (NotWritten line) reasons layouts h = h
 refused_too Reason OfLayout Why WhyLayout (Refused line) reasons layouts h = reasons line.items h
 refused_too Reason OfLayout Why WhyLayout (Layout line) reasons layouts h = layouts line.items h
-refused_too Reason OfLayout Why WhyLayout (Record line) reasons layouts h = h
-refused_too Reason OfLayout Why WhyLayout (Text line) reasons layouts h = h
-refused_too Reason OfLayout Why WhyLayout Output reasons layouts h = h
-refused_too Reason OfLayout Why WhyLayout OutOfMemory reasons layouts h = h
+refused_too Reason OfLayout Why WhyLayout other reasons layouts h = h
 
 -- what never is says anything
 pub never : (Why : List ℕ → Type 0) (line : List ℕ) → IsNever line → Why line

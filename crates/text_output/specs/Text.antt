@@ -2,7 +2,7 @@
 use Rattle.std.specs.Prelude.{ℕ, List, ◌++◌, codes}
 use Rattle.rv32_text.specs.Listing.{word_digits}
 
--- a word in eight hexadecimal digits, behind 0x
+-- a word in eight hexadecimal digits, after 0x
 abbrev pub hex8 : ℕ → List ℕ
 hex8 n = codes "0x" ++ word_digits n
 

@@ -11,7 +11,7 @@ use crate::failure::Failure;
 use dsm_io::{FileError, Files, Sink, SinkError};
 use std::alloc::{AllocError, Global};
 
-/// A long text is put in pieces of about so many bytes.
+/// A long text is put in pieces of about this number of bytes.
 pub const PIECE: usize = 0x1_0000;
 
 /// Puts a piece of a command's text.

@@ -26,7 +26,7 @@ pub fn push_number(text: &mut Vec<u8>, n: u64) -> Result<(), AllocError>
     Ok(())
 }
 
-/// Appends an address: eight hexadecimal digits behind `0x`.
+/// Appends an address: eight hexadecimal digits after `0x`.
 pub fn push_address(text: &mut Vec<u8>, address: u32) -> Result<(), AllocError>
     ensures { OnOk result (text.new.items ≡ text.old.items ++ model.hex8 address) }
 {

@@ -89,7 +89,7 @@ writing =
 abbrev pub leaving : List Instr
 leaving = addi 10 0 (pos 0) ∷ addi 17 0 (pos 93) ∷ Ecall ∷ []
 
--- what stands behind the opening, for these groups
+-- what stands after the opening, for these groups
 abbrev pub round_of : List Instr → List Instr
 round_of made = made ++ (again (length made) ++ (meeting ++ (summing ++ (writing ++ leaving))))
 

@@ -84,7 +84,7 @@ pub fn srli(rd: u8, rs: u8, amount: u8) -> Instr
     }
 }
 
-/// The word so many bytes from the base.
+/// The word `offset` bytes from the base.
 pub fn lw(rd: u8, offset: i32, base: u8) -> Instr
     requires rd { rd < 32 }
     requires base { base < 32 }
@@ -100,7 +100,7 @@ pub fn lw(rd: u8, offset: i32, base: u8) -> Instr
     }
 }
 
-/// The word so many bytes from the base becomes a register's.
+/// The word `offset` bytes from the base becomes a register's.
 pub fn sw(rs: u8, offset: i32, base: u8) -> Instr
     requires rs { rs < 32 }
     requires base { base < 32 }
@@ -111,7 +111,7 @@ pub fn sw(rs: u8, offset: i32, base: u8) -> Instr
     store(Width::Word, rs, offset, base)
 }
 
-/// The byte so many bytes from the base becomes a register's lowest.
+/// The byte `offset` bytes from the base becomes a register's lowest.
 pub fn sb(rs: u8, offset: i32, base: u8) -> Instr
     requires rs { rs < 32 }
     requires base { base < 32 }
@@ -153,7 +153,7 @@ pub fn amoadd(rs: u8, base: u8) -> Instr
     }
 }
 
-/// Goes on so many bytes away where two registers are equal.
+/// Goes on `offset` bytes away where two registers are equal.
 pub fn beq(one: u8, other: u8, offset: i32) -> Instr
     requires one { one < 32 }
     requires other { other < 32 }
@@ -165,7 +165,7 @@ pub fn beq(one: u8, other: u8, offset: i32) -> Instr
     branch(Cond::Eq, one, other, offset)
 }
 
-/// Goes on so many bytes away where two registers differ.
+/// Goes on `offset` bytes away where two registers differ.
 pub fn bne(one: u8, other: u8, offset: i32) -> Instr
     requires one { one < 32 }
     requires other { other < 32 }
@@ -177,7 +177,7 @@ pub fn bne(one: u8, other: u8, offset: i32) -> Instr
     branch(Cond::Ne, one, other, offset)
 }
 
-/// Goes on so many bytes away where one register is below the other, as signed numbers.
+/// Goes on `offset` bytes away where one register is below the other, as signed numbers.
 pub fn blt(one: u8, other: u8, offset: i32) -> Instr
     requires one { one < 32 }
     requires other { other < 32 }
@@ -205,7 +205,7 @@ fn branch(cond: Cond, one: u8, other: u8, offset: i32) -> Instr
     }
 }
 
-/// Goes on so many bytes away.
+/// Goes on `offset` bytes away.
 pub fn jump(offset: i32) -> Instr
     requires low { negsuc 1048575 ≤ℤ offset }
     requires high { offset ≤ℤ pos 1048574 }

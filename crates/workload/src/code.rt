@@ -120,7 +120,7 @@ fn opening() -> [Instr; 6]
     ]
 }
 
-/// Back to the groups, which take so many words, until they have been executed twice.
+/// Back to the groups, which take `words` words, until they have been executed twice.
 fn again(words: usize) -> [Instr; 3]
     requires { words ≤ 3 * model.group_count }
     ensures { result ≡ model.again words }

@@ -26,7 +26,7 @@ const CODE_FLAGS: u32 = 5;
 const PAGES_FLAGS: u32 = 6;
 
 /// The executable of a number. Contracts see the number.
-#[derive(Debug, Drop)]
+#[derive(Drop)]
 pub struct Generated {
     number: u32,
     /// The words of the code, little-endian.

@@ -6,15 +6,13 @@ use Rattle.command_line.proofs.flag_in.Goals as goal
 pub returns-in-Nothing : goal.returns-in-Nothing
 returns-in-Nothing c = record {
   there =
-      flag_at (given_by c.args.matches.now) c.args.setting [] false
-      c.in-Nothing.ensures refl;
+      flag_at (given_by c.args.matches.now) c.args.setting [] false c.in-Nothing.ensures refl;
 }
 
 pub returns-in-One : goal.returns-in-One
 returns-in-One c = record {
   there =
-      flag_at (given_by c.args.matches.now) c.args.setting _ true
-      c.in-One.ensures refl;
+      flag_at (given_by c.args.matches.now) c.args.setting _ true c.in-One.ensures refl;
 }
 
 pub returns-in-Two : goal.returns-in-Two

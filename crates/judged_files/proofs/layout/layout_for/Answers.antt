@@ -14,6 +14,6 @@ returns-in-Err-Broken-clause-refused c =
       number = c.in-Err-Broken.line;
       fault =
           subst (λ n. IsFirstFault c.in-Some.text.now c.in_ok-ranges.ranges n c.in-Err-Broken.rule c.in-Err-Broken.line)
-          c.number-2.ensures.value (c.read_layout.ensures.refused c.in-Err-Broken.rule c.in-Err-Broken.line (cc));
+          c.as_u8-2.ensures.value (c.read_layout.ensures.refused c.in-Err-Broken.rule c.in-Err-Broken.line (cc));
       line_is = c.in_ok-layout_line-in-Err-Broken.ensures;
     }
