@@ -46,7 +46,7 @@ pub record IsBroken (shared : List Lines) (nodes : ℕ) (earlier : List BlockRan
   pub lowest : (other : LayoutRule) → number_of other < number_of rule →
       Violates shared nodes earlier r other → ⊥
 
--- the range breaks no rule, and is added behind the earlier ones
+-- the range breaks no rule, and is added after the earlier ones
 pub record IsAdded (shared : List Lines) (nodes : ℕ) (earlier : List BlockRange) (r : BlockRange)
     (named : List BlockRange) : Type 0 where
   pub named_is : named ≡ earlier ++ r ∷ []

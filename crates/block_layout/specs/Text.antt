@@ -8,7 +8,7 @@ use Rattle.block_layout.specs.declared.refused.LayoutRule.{LayoutRule}
 use Rattle.block_layout.specs.declared.refused.LayoutRule.TheVariants.{Syntax, BlockSize, Unaligned, NotShared, Overlap, Home}
 use Rattle.block_layout.specs.Layout.{Shape, IsValid, names, is_in, is_block_size, is_whole, is_home}
 
--- lines end with a line feed; the last may lack it (behind a last line feed there is an empty line)
+-- lines end with a line feed; the last may lack it (after a last line feed there is an empty line)
 abbrev pub text_lines : List ℕ → List (List ℕ)
 text_lines text = slice_split (λ c. c == 10) text
 
@@ -78,7 +78,7 @@ number_of NotShared = 33
 number_of Overlap = 34
 number_of Home = 35
 
--- a range breaks a rule, behind the ranges of earlier lines
+-- a range breaks a rule, after the ranges of earlier lines
 abbrev pub Violates : List Lines → ℕ → List BlockRange → BlockRange → LayoutRule → Type 0
 Violates shared nodes earlier r Syntax = ⊥
 Violates shared nodes earlier r BlockSize = is_block_size r.block ≡ false

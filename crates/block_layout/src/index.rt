@@ -12,7 +12,7 @@ use crate::ranges::{Lines, Ranges};
 use std::alloc::{AllocError, Global};
 
 /// Blocks of one size and home, one after another.
-#[derive(Clone, Copy, Debug)]
+#[derive(Clone, Copy)]
 pub(crate) struct BlockRun {
     /// The first line.
     pub(crate) first: u32,
@@ -29,7 +29,7 @@ pub(crate) struct BlockRun {
 }
 
 /// The blocks and shared lines below a line.
-#[derive(Debug, Drop)]
+#[derive(Drop)]
 pub(crate) struct Index {
     /// The blocks, ascending.
     pub(crate) pieces: Vec<BlockRun>,

@@ -20,7 +20,7 @@ const PAGE_BYTES: u32 = 4096;
 pub type Block = u32;
 
 /// A range of shared memory, in bytes.
-#[derive(Clone, Copy, Debug, PartialEq, Eq)]
+#[derive(Clone, Copy, PartialEq, Eq)]
 pub struct BlockRange {
     /// The address of the first byte.
     pub start: u32,
@@ -34,7 +34,7 @@ pub struct BlockRange {
 
 /// The blocks of the shared lines. Contracts see the shared lines, the named ranges and the number
 /// of nodes.
-#[derive(Debug, Drop)]
+#[derive(Drop)]
 pub struct Layout {
     shared: Ranges,
     named: Vec<BlockRange>,

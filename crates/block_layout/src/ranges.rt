@@ -7,7 +7,7 @@ use std::alloc::{AllocError, Global};
 use std::marker::Model;
 
 /// Lines of 64 bytes, one after another: the number of the first, and how many there are.
-#[derive(Clone, Copy, Debug, PartialEq, Eq)]
+#[derive(Clone, Copy, PartialEq, Eq)]
 pub struct Lines {
     pub first: u32,
     pub lines: u32,
@@ -17,7 +17,7 @@ pub struct Lines {
 /// the list of them.
 ///
 /// A line is in them or not; `LineClasses` of `state_table` has a byte for each line as well.
-#[derive(Debug, Drop)]
+#[derive(Drop)]
 pub struct Ranges {
     items: Vec<Lines>,
 }

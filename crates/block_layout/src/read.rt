@@ -19,7 +19,7 @@ use crate::refused::{LayoutRefused, LayoutRule};
 use crate::text::{fields_of, says_nothing};
 use std::alloc::{AllocError, Global};
 
-/// Whether a block may have so many bytes.
+/// Whether a block may have this size.
 fn is_block_size(bytes: u32) -> bool
     ensures { result ≡ model.is_block_size bytes }
 {
@@ -64,7 +64,7 @@ fn is_new(named: &NamedRanges, range: &BlockRange) -> bool
     true
 }
 
-/// The first rule that a range breaks, behind the ranges named.
+/// The first rule that a range breaks, after the ranges named.
 fn rule_broken(
     shared: &Ranges,
     nodes: u8,
@@ -143,7 +143,7 @@ fn line_feed_in(text: &[u8]) -> Option<usize>
     text.iter().position(|byte| *byte == b'\n')
 }
 
-/// The first line of a text, and what stands behind its line feed.
+/// The first line of a text, and what stands after its line feed.
 fn split_line(text: &[u8]) -> (&[u8], Option<&[u8]>)
     ensures lines { text_lines text.now ≡ result.0.now ∷ lines_left result.1 }
     ensures shorter { IfSome result.1 (λ behind. length behind.now < length text.now) }

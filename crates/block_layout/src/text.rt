@@ -63,7 +63,7 @@ fn hexadecimal(word: &[u8]) -> Option<u32>
     number_in(digits, 16)
 }
 
-/// The number of a decimal word, which has at most so many digits.
+/// The number of a decimal word, which has at most `most` digits.
 fn decimal(word: &[u8], most: usize) -> Option<u32>
     requires { most ≤ 5 }
     ensures some { IfSome result (IsDecimal most word.now) }
@@ -102,7 +102,7 @@ fn mark_in(text: &[u8]) -> Option<usize>
     text.iter().position(|byte| *byte != b' ')
 }
 
-/// A word, and what stands behind the spaces that follow it.
+/// A word, and what stands after the spaces that follow it.
 fn split_word(text: &[u8]) -> Option<(&[u8], &[u8])>
     ensures some { IfSome result (λ p. SplitsAtGap text.now p.0.now p.1.now) }
     ensures only { (word rest : List ℕ) → SplitsAtGap text.now word rest

@@ -118,7 +118,7 @@ impl Model for Pool {
 }
 
 impl Pool {
-    /// A pool of so many buffers with room for so many bytes.
+    /// A pool of `slots` buffers, each with room for `bytes` bytes.
     pub fn new(alloc: Global, slots: u8, bytes: u32) -> Result<Pool, AllocError>
         requires { bytes ≤ 4096 }
         ensures { IfOk result (λ p. p ≡ record { free = slots; slots = slots; bytes = bytes }) }

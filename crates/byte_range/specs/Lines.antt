@@ -1,4 +1,4 @@
--- The bytes of ranges of lines of 64 bytes, one line behind the other.
+-- The bytes of ranges of lines of 64 bytes, one line after the other.
 use Rattle.std.specs.Prelude.{ℕ, ◌+◌, ◌-◌, ◌*◌, ◌/◌, ◌%◌, ◌^◌, ◌≤◌, Bool, ◌&&◌, nat_le, nat_lt, if◌then◌else◌, List, [], ◌∷◌, Option, Some, None, slice_index}
 use Rattle.std.specs.Option.{option_map}
 use Rattle.byte_range.specs.declared.lines.LineRange.{LineRange}

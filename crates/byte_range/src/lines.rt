@@ -12,22 +12,22 @@ use std::alloc::{AllocError, Global};
 use std::marker::Model;
 
 /// Lines of 64 bytes, one after another: the number of the first, and how many there are.
-#[derive(Clone, Copy, Debug, PartialEq, Eq)]
+#[derive(Clone, Copy, PartialEq, Eq)]
 pub struct LineRange {
     pub first: u32,
     pub count: u32,
 }
 
 /// A range of lines, and how many lines the ranges before it have.
-#[derive(Clone, Copy, Debug)]
+#[derive(Clone, Copy)]
 struct PlacedRange {
     lines: LineRange,
     start: u32,
 }
 
-/// The bytes of the lines of ascending ranges, one line behind the other. Contracts see the ranges
+/// The bytes of the lines of ascending ranges, one line after the other. Contracts see the ranges
 /// and the list of the bytes.
-#[derive(Debug, Drop)]
+#[derive(Drop)]
 pub struct LineMemory {
     pieces: Vec<PlacedRange>,
     /// The first address of the first range.
@@ -84,7 +84,8 @@ impl LineMemory {
 
     /// What holds of each byte of the lines. A caller uses the clause; the call does nothing.
     pub fn law(&self)
-        ensures small { (outside : ℕ → ℕ) (a : ℕ) → is_some (place_of self.now.ranges (a / 64)) ≡ true
+        ensures small { (outside : ℕ → ℕ) (a : ℕ)
+            → is_some (place_of self.now.ranges (a / 64)) ≡ true
             → lines_memory self.now outside a < 2 ^ 8 }
     {
         self.flat.law();

@@ -13,7 +13,7 @@ use std::marker::Model;
 
 /// The bytes of the addresses from a first one on. Contracts see the first address and the list of
 /// the bytes.
-#[derive(Debug, Drop)]
+#[derive(Drop)]
 pub struct ByteRange {
     base: u32,
     bytes: Vec<u8>,
@@ -31,7 +31,7 @@ impl Model for ByteRange {
 }
 
 impl ByteRange {
-    /// So many zero bytes from an address on.
+    /// `len` zero bytes from an address on.
     pub fn zeros(alloc: Global, base: u32, len: usize) -> Result<ByteRange, AllocError>
         requires { base + len ≤ 2 ^ 32 }
         ensures { IfOk result (λ r. r ≡ record { base = base; bytes = replicate len 0 }) }
@@ -39,7 +39,7 @@ impl ByteRange {
         ByteRange::of(alloc, base, &[], len)
     }
 
-    /// So many bytes from an address on: those given, and then zeros.
+    /// `len` bytes from an address on: those given, and then zeros.
     pub fn of(alloc: Global, base: u32, bytes: &[u8], len: usize) -> Result<ByteRange, AllocError>
         requires ends { base + len ≤ 2 ^ 32 }
         requires fits { length bytes.now ≤ len }
@@ -62,8 +62,8 @@ impl ByteRange {
         ByteRange { base, bytes }
     }
 
-    /// What holds of each byte of a memory that is the range. A caller uses the clause; the call does
-    /// nothing.
+    /// What holds of each byte of a memory that is the range. A caller uses the clause; the call
+    /// does nothing.
     pub fn law(&self)
         ensures small { (outside : ℕ → ℕ) (a : ℕ) → outside a < 2 ^ 8
             → memory_of self.now outside a < 2 ^ 8 }

@@ -18,7 +18,7 @@ pub const WINDOW_START: u32 = 0x7fff_0000;
 const LENGTH: u32 = 0x1_0000;
 
 /// The bytes of the window 0x7fff0000 to 0x7fffffff. Contracts see them as a range.
-#[derive(Debug, Drop)]
+#[derive(Drop)]
 pub struct Window {
     bytes: ByteRange,
 }

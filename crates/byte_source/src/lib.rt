@@ -15,7 +15,7 @@ pub use memory::MemSource;
 pub use real::StdSource;
 
 /// The input could not be read.
-#[derive(Debug, Drop)]
+#[derive(Drop)]
 pub struct SourceFailed;
 
 /// What gives bytes, as an input does.

@@ -70,8 +70,7 @@ in_responses r i [] = 0
 in_responses r i (Data k c ∷ ms) = one_if (eqb i r) + in_responses r i ms
 in_responses r i (Ack ∷ ms) = in_responses r i ms
 
-by_class : {C : Type 0} (r b j i : ℕ) (ws : List (Wire C))
-    → carrying r b j i ws
+by_class : {C : Type 0} (r b j i : ℕ) (ws : List (Wire C)) → carrying r b j i ws
     ≡ in_asks r j (part if_to_home b ws) + in_forwards r i (part if_forward b ws)
     + in_responses r i (part if_response b ws)
 by_class r b j i [] = refl
@@ -84,8 +83,7 @@ by_class r b j i (w ∷ ws) =
   where
     own : (m : Message _) → carrying r b j i ws
         ≡ in_asks r j (part if_to_home b ws) + in_forwards r i (part if_forward b ws)
-        + in_responses r i (part if_response b ws)
-        → one_if (carries r j i m) + carrying r b j i ws
+        + in_responses r i (part if_response b ws) → one_if (carries r j i m) + carrying r b j i ws
         ≡ in_asks r j (if_to_home m ++ part if_to_home b ws)
         + in_forwards r i (if_forward m ++ part if_forward b ws)
         + in_responses r i (if_response m ++ part if_response b ws)
@@ -162,8 +160,7 @@ done_part : (r j : ℕ) (t : Bool) (ms : List HomeMessage)
 done_part r j true ms = refl
 done_part r j false ms = refl
 
-home_part : (p : Picture) (f : Phase) (r j : ℕ)
-    → in_asks r j (to_home_in p f j)
+home_part : (p : Picture) (f : Phase) (r j : ℕ) → in_asks r j (to_home_in p f j)
     ≡ cond (eqb j r) (asks_of (has_from j p.queue) (p.requests j)) 0
 home_part p Idle r j = ask_part r j (has_from j p.queue) (p.requests j)
 home_part p (ReadOpen q sent) r j = ask_part r j (has_from j p.queue) (p.requests j)
@@ -180,15 +177,13 @@ abbrev forward_of : ℕ → Phase → ℕ
 forward_of r Idle = 0
 forward_of r (ReadOpen q sent) = one_if (not sent && eqb q r)
 forward_of r (WriteOpen up q place k c flight) = one_if (is_in_forward place && eqb q r)
-forward_of r (ReadDone q) = 0
-forward_of r (WriteDone q) = 0
+forward_of r other = 0
 
 abbrev response_of : ℕ → Phase → ℕ
 response_of r Idle = 0
 response_of r (ReadOpen q sent) = one_if (sent && eqb q r)
 response_of r (WriteOpen up q place k c flight) = one_if (is_in_data place && eqb q r)
-response_of r (ReadDone q) = 0
-response_of r (WriteDone q) = 0
+response_of r other = 0
 
 one_forward : (up : Bool) (q k r i : ℕ) → (up ≡ true → i ≡ q)
     → in_forwards r i (write_forward up q k ∷ []) ≡ one_if (eqb q r)
@@ -196,8 +191,7 @@ one_forward true q k r i at = subst (λ z. one_if (eqb z r) + 0 ≡ one_if (eqb 
 one_forward false q k r i at = omega arith
 
 module _ {C : Type 0} (n h : ℕ) (home : h < n) (p : Picture) (m : C) (r : ℕ) (node : r < n) where
-  asks_total : (f : Phase)
-      → pairs (λ j i. in_asks r j (cond (eqb i h) (to_home_in p f j) [])) n
+  asks_total : (f : Phase) → pairs (λ j i. in_asks r j (cond (eqb i h) (to_home_in p f j) [])) n
       ≡ asks_of (has_from r p.queue) (p.requests r)
   asks_total f =
       pairs_one (λ j i. in_asks r j (cond (eqb i h) (to_home_in p f j) [])) n r h node home
@@ -261,8 +255,7 @@ module _ {C : Type 0} (n h : ℕ) (home : h < n) (p : Picture) (m : C) (r : ℕ)
 
       not_inval : (g : Flight) → flight (target p up q) ≡ g → has_inval g ≡ false
       not_inval InvalFlight is = absurd (w.phase.0.out_other (target p up q) (ap is_out is) refl)
-      not_inval AckFlight is = refl
-      not_inval NoFlight is = refl
+      not_inval other is = refl
   forwards_total (ReadDone q) w = no_forwards
   forwards_total (WriteDone q) w = no_forwards
 
@@ -307,8 +300,7 @@ module _ {C : Type 0} (n h : ℕ) (home : h < n) (p : Picture) (m : C) (r : ℕ)
       at_owner : (u : Bool) → up ≡ u → (g : Flight) → flight p.owner ≡ g
           → in_responses r q (cond (has_ack g) (Ack ∷ []) (cond (is_in_data place) (Data k m ∷ []) []))
           ≡ one_if (is_in_data place && eqb q r)
-      at_owner true e AckFlight is =
-          (let none = w.phase.0.up_grant e in rw none refl)
+      at_owner true e AckFlight is = (let none = w.phase.0.up_grant e in rw none refl)
       at_owner false e AckFlight is = absurd (w.phase.0.out_other p.owner (ap is_out is)
           (ap (λ z. cond z q p.owner) (sym e)))
       at_owner u e InvalFlight is = by_place (is_in_data place)
@@ -370,12 +362,10 @@ module _ {C : Type 0} (n h : ℕ) (home : h < n) (p : Picture) (m : C) (r : ℕ)
       by_place true InWait = refl
       by_place false InWait = refl
 
-      no_place : (a : Place)
-          → Waits (wait_for (p.requests r)) (one_if (is_some (p.requests r)))
+      no_place : (a : Place) → Waits (wait_for (p.requests r)) (one_if (is_some (p.requests r)))
           (one_if (is_in_forward a && false) + one_if (is_in_data a && false))
       no_place InForward = only_asked (p.requests r)
-      no_place InData = only_asked (p.requests r)
-      no_place InWait = only_asked (p.requests r)
+      no_place other = only_asked (p.requests r)
   waits_total (ReadDone q) w = only_asked (p.requests r)
   waits_total (WriteDone q) w = only_asked (p.requests r)
 

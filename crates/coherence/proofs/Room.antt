@@ -102,8 +102,7 @@ module _ (p : ℕ → ℕ → Bool) (n m most : ℕ) (room : n * most ≤ 32)
       (λ d. (elim (eqb d b) as (λ t. Once (cond t ((r, need) ∷ w b) (w d))) [
         | true ↦ (other, once b)
         | false ↦ once d
-      ]))
-      (λ d x. (elim (eqb d b)
+      ])) (λ d x. (elim (eqb d b)
       as (λ t. eqb d b ≡ t → has_from x (cond t ((r, need) ∷ w b) (w d)) ≡ true
       → (x < n) × (p x d ≡ true)) [
         | true ↦ (λ t e. let same : b ≡ d = grind (arith, nat_tests) in
@@ -173,5 +172,4 @@ module _ (home : ℕ → ℕ) (w : ℕ → List (ℕ × Need)) (number : ℕ →
 
   pub queue_counted : (c : Queueing) → (c ≢ Stays → i ≡ home b) → Counted c
   queue_counted Stays at = same_counted
-  queue_counted (Joins r need) at = home_counted (Joins r need) (at (λ e. cc))
-  queue_counted FirstLeaves at = home_counted FirstLeaves (at (λ e. cc))
+  queue_counted other at = home_counted other (at (λ e. cc))

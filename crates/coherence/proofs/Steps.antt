@@ -188,8 +188,7 @@ module _ {C : Type 0} (s : Setting C) (proper : Proper s) (k : Core C) (holds : 
         ]) in
         let all = holds.counted i in
         let l = has_room has_wait s.nodes s.blocks s.most proper.room holds.few_waits (here i)
-        (once_at i) (among i) w.block j need got.0
-        (below s k holds w j i rest front) got.1 out in
+        (once_at i) (among i) w.block j need got.0 (below s k holds w j i rest front) got.1 out in
         let few : k.occupancy i < 32 = omega (arith, all, l) in
         grind (arith, nat_tests)
 
@@ -199,8 +198,7 @@ module _ {C : Type 0} (s : Setting C) (proper : Proper s) (k : Core C) (holds : 
         (update2 v.responses j i (part if_response w.block rest)) e
 
     abbrev TakeGoes : Message C → Type 0
-    TakeGoes m = (e : Effect C)
-        × (row s.flag s.nodes (s.home w.block) i j room (k.waiting w.block)
+    TakeGoes m = (e : Effect C) × (row s.flag s.nodes (s.home w.block) i j room (k.waiting w.block)
         (local k i w.block) m ≡ Some e)
         × pictured s (after_take e) w.block × (e.queueing ≢ Stays → i ≡ s.home w.block)
         × NoNewWait (local k i w.block) e
@@ -231,8 +229,7 @@ module _ {C : Type 0} (s : Setting C) (proper : Proper s) (k : Core C) (holds : 
         let got = forward_goes s.flag s.nodes (s.home w.block) v j i m
         (part if_forward w.block rest) (holds.pictures w.block) f in
         let l = parts_like v i _ v.to_home _ (update2 v.forwards j i (part if_forward w.block rest))
-        _ v.responses got.0
-        (to_home_stays (ap if_to_home is) got.0) (λ x y. refl)
+        _ v.responses got.0 (to_home_stays (ap if_to_home is) got.0) (λ x y. refl)
         (responses_stay (ap if_response is) got.0) in
         let away = some_of (Away (at_node v i)) _ got.0 got.1
         (forward_away s.flag s.nodes (s.home w.block) j (at_node v i) m) in (
@@ -265,8 +262,7 @@ module _ {C : Type 0} (s : Setting C) (proper : Proper s) (k : Core C) (holds : 
 
     home_row_if : (h : ℕ) (e : Effect C) (m : HomeMessage) → i ≡ h → j < s.nodes
         → home_row s.nodes j room (k.waiting w.block) (local k h w.block) m ≡ Some e
-        → row s.flag s.nodes h i j room (k.waiting w.block) (local k i w.block)
-        (ToHome m) ≡ Some e
+        → row s.flag s.nodes h i j room (k.waiting w.block) (local k i w.block) (ToHome m) ≡ Some e
     home_row_if h e m is node row_is =
         let t : (eqb h h && ltb j s.nodes) ≡ true = grind (arith, nat_tests) in
         subst (λ z. row s.flag s.nodes h z j room (k.waiting w.block)
@@ -278,8 +274,7 @@ module _ {C : Type 0} (s : Setting C) (proper : Proper s) (k : Core C) (holds : 
         × GoesAtHome s.flag s.nodes (s.home w.block) v j (part if_to_home w.block rest) room m
     home_by Done is =
         home_goes s.flag s.nodes (s.home w.block) v j i true Done (part if_to_home w.block rest)
-        refl (holds.pictures w.block)
-        (front_part if_to_home (k.list j i) w rest front
+        refl (holds.pictures w.block) (front_part if_to_home (k.list j i) w rest front
         ∙ ap (λ z. if_to_home z ++ part if_to_home w.block rest) is)
     home_by (Ask need) is =
         home_goes s.flag s.nodes (s.home w.block) v j i room (Ask need)
@@ -296,15 +291,13 @@ module _ {C : Type 0} (s : Setting C) (proper : Proper s) (k : Core C) (holds : 
         _ v.responses e
         (λ x y. refl) (forwards_stay (ap if_forward is) e) (responses_stay (ap if_response is) e) in
         let picture : pictured s (view_after v i
-        (update2 v.to_home j i (part if_to_home w.block rest)) v.forwards v.responses e) w.block
-        =
+        (update2 v.to_home j i (part if_to_home w.block rest)) v.forwards v.responses e) w.block =
         subst (λ z. pictured s (view_after v z
         (update2 v.to_home j z (part if_to_home w.block rest)) v.forwards v.responses e)
         w.block) (sym at) got.1.1.2 in
         let same : NoNewWait (local k (s.home w.block) w.block) e =
         some_of (NoNewWait (local k (s.home w.block) w.block)) _ e got.1.1.1
-        (home_keeps (local k (s.home w.block) w.block) s.nodes j room
-        (k.waiting w.block) m) in (
+        (home_keeps (local k (s.home w.block) w.block) s.nodes j room (k.waiting w.block) m) in (
           e,
           home_row_if (s.home w.block) e m at got.1.0 got.1.1.1,
           like_pictured s.flag s.nodes (s.home w.block) _ _ l picture,
@@ -376,20 +369,17 @@ module _ {C : Type 0} (s : Setting C) (proper : Proper s) (k : Core C) (holds : 
     take_beyond d far =
         let l = below s k holds w j i rest front in
         let other : d ≢ w.block = (λ e. omega arith) in
-        silent_like s _ _ (view_other k j i w rest takes.0 front d other)
-        (holds.beyond d far)
+        silent_like s _ _ (view_other k j i w rest takes.0 front d other) (holds.beyond d far)
 
     pub take_holds : Holds s (apply k j i w.block rest
         (effect_or (local k i w.block) (row_of s k i j w)))
     take_holds =
         subst (λ z. Holds s (apply k j i w.block rest (effect_or (local k i w.block) z)))
-        (sym row_is)
-        (record {
+        (sym row_is) (record {
           pictures = take_pictures;
           counted = take_counted;
           few_waits = take_few;
-          beyond =
-              take_beyond;
+          beyond = take_beyond;
         })
 
 module _ {C : Type 0} (s : Setting C) (proper : Proper s) where
@@ -448,11 +438,9 @@ module _ {C : Type 0} (s : Setting C) (proper : Proper s) where
     few_waits = holds.few_waits;
     beyond = λ d far. record {
       queue = (holds.beyond d far).queue;
-      to_home =
-          (holds.beyond d far).to_home;
+      to_home = (holds.beyond d far).to_home;
       forwards = (holds.beyond d far).forwards;
-      responses =
-          (holds.beyond d far).responses;
+      responses = (holds.beyond d far).responses;
     };
   }
 
@@ -508,8 +496,7 @@ module _ {C : Type 0} (s : Setting C) (proper : Proper s) where
         tally = at_other k.tally b _ d o;
       }
 
-  want_own : (k : Core C) (i b : ℕ) (need : Need)
-      → Like (view (want_in s k i b need) b)
+  want_own : (k : Core C) (i b : ℕ) (need : Need) → Like (view (want_in s k i b need) b)
       (asking_view (view k b) s.nodes (s.home b) i need)
   want_own k i b need = let w : Wire C = record { block = b; body = ToHome (Ask need) } in record {
     owner = refl;
@@ -604,8 +591,7 @@ module _ {C : Type 0} (s : Setting C) (proper : Proper s) where
         let p : Picture = record {
           owner = s.home d;
           sharers = λ x. eqb x (s.home d);
-          sole =
-              true;
+          sole = true;
           requests = λ x. None;
           queue = [];
         } in
@@ -646,8 +632,7 @@ module _ {C : Type 0} (s : Setting C) (proper : Proper s) where
     beyond = λ b far. record {
       queue = refl;
       to_home = λ j i. refl;
-      forwards =
-          λ j i. refl;
+      forwards = λ j i. refl;
       responses = λ j i. refl;
     };
   }

@@ -16,8 +16,7 @@ use Rattle.coherence.proofs.Home.{at_home, no_done}
 use Rattle.coherence.proofs.Steps.{Holds, seen, has_row, few_requests, front_part, list_holds}
 
 -- a wait has counted fewer acknowledgements than there are nodes
-asked_few : {C : Type 0} (n : ℕ) (o : Option Need) (w : Wait C) → wait_for o ≡ Some w → w.acks
-    ≡ 0
+asked_few : {C : Type 0} (n : ℕ) (o : Option Need) (w : Wait C) → wait_for o ≡ Some w → w.acks ≡ 0
 asked_few n None w e = absurd cc
 asked_few n (Some need) w e = grind (arith, nat_tests)
 
@@ -37,8 +36,7 @@ few_counted m n p (WriteOpen up r b k c flight) i w l g e =
       | false ↦ (λ t. let a = asked_few n (p.requests i) w (grind (arith, nat_tests)) in
           omega arith)
     ]) refl
-few_counted m n p (ReadDone r) i w l g e = let a = asked_few n (p.requests i) w e in omega arith
-few_counted m n p (WriteDone r) i w l g e = let a = asked_few n (p.requests i) w e in omega arith
+few_counted m n p other i w l g e = let a = asked_few n (p.requests i) w e in omega arith
 
 module _ {C : Type 0} (flag : C) (n h : ℕ) (v : View C) (p : Picture) (j : ℕ)
     (rest : List HomeMessage) where
@@ -75,8 +73,7 @@ module _ {C : Type 0} (s : Setting C) (proper : Proper s) (k : Core C) (holds : 
         | Some w ↦ (λ o. refl)
       ]) e in
       let m = waits_move s.flag s.nodes (s.home b) (proper.homes b) (seen s k b) (holds.pictures b)
-      i
-      waits in (
+      i waits in (
         m.0,
         m.1,
         m.2,

@@ -1,16 +1,14 @@
 -- A node that waits for a block may not write it.
 use Rattle.std.proofs.Common.{◌≡◌, ℕ, false, Option, Some, None, sym, ap, ◌∙◌, refl, inl, inr, arith}
 use Rattle.std.proofs.lemmas.Bool.Decides.{eqb_tells, nat_tests}
-use Rattle.coherence.specs.Messages.{Need, Read, Write, State, Exclusive, Shared, Invalid, Pending, Wait, can_read, can_write}
+use Rattle.coherence.specs.Messages.{Need, Read, Write, State, Exclusive, Wait, can_read, can_write}
 use Rattle.coherence.proofs.View.{View}
-use Rattle.coherence.proofs.Picture.{Phase, Idle, ReadOpen, WriteOpen, ReadDone, WriteDone, Picture, readable, writable, wait_for, wait_in, Shows, WellFormed}
+use Rattle.coherence.proofs.Picture.{Phase, Idle, ReadOpen, WriteOpen, Picture, readable, writable, wait_for, wait_in, Shows, WellFormed}
 
 -- a state that may not be read may not be written
 reads_first : (s : State) → can_read s ≡ false → can_write s ≡ false
 reads_first Exclusive e = absurd cc
-reads_first Shared e = refl
-reads_first Invalid e = refl
-reads_first Pending e = refl
+reads_first other e = refl
 
 module _ {C : Type 0} (flag : C) (n h : ℕ) (v : View C) (p : Picture) where
   unreadable : (f : Phase) → Shows flag n h v p f → (i : ℕ) → readable p f i ≡ false
@@ -39,10 +37,8 @@ module _ {C : Type 0} (flag : C) (n h : ℕ) (v : View C) (p : Picture) where
         let is = w.phase.0.up_is in grind (arith, nat_tests))
     | inr q ↦ by_request (WriteOpen up r place k c flight) s w i x (rw q.0 at e)
   ]
-  waits_unwritable (ReadDone r) s w i x e = by_request (ReadDone r) s w i x e
-  waits_unwritable (WriteDone r) s w i x e = by_request (WriteDone r) s w i x e
+  waits_unwritable other s w i x e = by_request other s w i x e
 
   pub waiter_reads : (f : Phase) → Shows flag n h v p f → WellFormed n p f → (i : ℕ) (x : Wait C)
       → v.wait i ≡ Some x → can_write (v.state i) ≡ false
-  waiter_reads f s w i x e =
-      s.writes i ∙ waits_unwritable f s w i x (sym (s.waits i) ∙ e)
+  waiter_reads f s w i x e = s.writes i ∙ waits_unwritable f s w i x (sym (s.waits i) ∙ e)

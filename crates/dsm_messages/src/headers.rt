@@ -8,7 +8,7 @@ use arrayvec::ArrayVec;
 use block_layout::Block;
 
 /// The kinds of messages.
-#[derive(Clone, Copy, Debug, Default, PartialEq, Eq)]
+#[derive(Clone, Copy, Default, PartialEq, Eq)]
 pub enum MessageKind {
     Read,
     Write,

@@ -38,7 +38,7 @@ pub enum Message {
         requester: u8,
         buf: Buf,
     },
-    /// From the home to the owner: give the block up to the requester, who gets so many Acks.
+    /// From the home to the owner: give the block up to the requester, who gets `acks` Acks.
     FwdWrite {
         block: Block,
         requester: u8,
@@ -50,13 +50,13 @@ pub enum Message {
         block: Block,
         requester: u8,
     },
-    /// To the requester: the block's bytes. So many Acks come.
+    /// To the requester: the block's bytes. `acks` Acks come.
     Data {
         block: Block,
         acks: u8,
         buf: Buf,
     },
-    /// From the home to the requester: its own bytes are good. So many Acks come.
+    /// From the home to the requester: its own bytes are good. `acks` Acks come.
     Grant {
         block: Block,
         acks: u8,

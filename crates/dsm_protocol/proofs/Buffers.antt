@@ -2,24 +2,12 @@
 use Rattle.std.proofs.Common.{◌≡◌, ℕ, zero, suc, ◌+◌, ◌<◌, Bool, true, false, not, eqb, ltb, ◌&&◌, List, [], ◌∷◌, refl, sym, ap, ◌∙◌, Option, Some, None, arith}
 use Rattle.std.specs.Prelude.{is_some}
 use Rattle.std.proofs.lemmas.Bool.Decides.{nat_tests}
-use Rattle.block_layout.specs.Layout.{Shape, blocks, home}
-use Rattle.home_directory.specs.dsm_messages.declared.messages.Message.{Message}
-use Rattle.home_directory.specs.dsm_messages.declared.messages.Message.TheVariants.{Read, Write, FwdRead, FwdWrite, Inval, Data, Grant, Ack, Done, Bye}
-use Rattle.home_directory.specs.declared.directory.Request.{Request}
+use Rattle.dsm_protocol.proofs.Names.{Shape, blocks, home, Message, Read, Write, FwdRead, FwdWrite, Inval, Data, Grant, Ack, Done, Bye, Request, Answer, ByData, ByGrant, sum_below, World, Contents, home_in, wires_of, requests_of, answer_of, wait_of, setting_of, IsLaid, Leads, Holds, carrying, asked_by, is_answered, AreInOnePlace}
 use Rattle.home_directory.specs.declared.wait.Wait as wait
-use Rattle.home_directory.specs.declared.wait.Answer.{Answer}
-use Rattle.home_directory.specs.declared.wait.Answer.TheVariants.{ByData, ByGrant}
 use Rattle.coherence.specs.Messages as m
-use Rattle.coherence.specs.Table.{sum_below}
 use Rattle.coherence.specs.Machine as k
 use Rattle.coherence.specs.Claims as claims
 use Rattle.coherence.proofs.Theorem.{all_buffers}
-use Rattle.dsm_protocol.specs.World.{World}
-use Rattle.dsm_protocol.specs.Abstraction.{Contents, home_in, wires_of, requests_of, answer_of, wait_of, setting_of}
-use Rattle.dsm_protocol.specs.Sound.{IsLaid}
-use Rattle.dsm_protocol.specs.Events.{Leads}
-use Rattle.dsm_protocol.specs.Holds.{Holds}
-use Rattle.dsm_protocol.specs.Buffers.{carrying, asked_by, is_answered, AreInOnePlace}
 use Rattle.dsm_protocol.proofs.Promised.{proper}
 
 without : (r b j i d : ℕ) (ms : List Message)

@@ -1,15 +1,9 @@
 -- A node waits for as many blocks as it has waits.
-use Rattle.std.proofs.Common.{◌≡◌, ◌≢◌, ℕ, zero, suc, ◌+◌, ◌<◌, Bool, true, false, cond, eqb, List, [], ◌∷◌, length, get_or, refl, sym, ap, ◌∙◌, subst, inl, inr, arith}
+use Rattle.std.proofs.Common.{◌≡◌, ◌≢◌, ℕ, zero, suc, ◌+◌, ◌<◌, Bool, true, false, eqb, List, [], ◌∷◌, length, get_or, refl, sym, ap, ◌∙◌, subst, inl, inr, arith}
 use Rattle.std.specs.Prelude.{is_some}
 use Rattle.std.proofs.lemmas.Bool.Decides.{eqb_tells, nat_tests}
-use Rattle.block_layout.specs.Layout.{Shape, blocks}
-use Rattle.home_directory.specs.Home.{count_of}
+use Rattle.dsm_protocol.proofs.Names.{Shape, blocks, count_of, BareNode, pending, Nodes, no_node, node_at, world_of, AreReached, Waiting, wait_in, AreWaits}
 use Rattle.std.proofs.lemmas.List.{get_or_default}
-use Rattle.dsm_protocol.specs.declared.nodes.BareNode.{BareNode}
-use Rattle.dsm_protocol.specs.Events.{pending}
-use Rattle.dsm_protocol.specs.Nodes.{Nodes, no_node, node_at, world_of, AreReached}
-use Rattle.message_queues.specs.node_model.miss_handlers.declared.Waiting.{Waiting}
-use Rattle.message_queues.specs.node_model.miss_handlers.Waits.{wait_in, AreWaits}
 
 pub count_alike : (p q : ℕ → Bool) (n : ℕ) → ((i : ℕ) → i < n → p i ≡ q i)
     → count_of p n ≡ count_of q n
@@ -35,22 +29,6 @@ count_one p q (suc n) i l is_in gone h = elim (eqb_tells i n) [
   where
     lt_of : (x y : ℕ) → x < suc y → x ≢ y → x < y
     lt_of x y a b = grind (arith, nat_tests)
-
--- none is counted
-pub count_zero : (p : ℕ → Bool) (n : ℕ) → count_of p n ≡ 0 → (i : ℕ) → i < n → p i ≡ false
-count_zero p zero e i l = absurd (omega arith)
-count_zero p (suc n) e i l = (elim (p n)
-    as (λ t. p n ≡ t → cond t (count_of p n + 1) (count_of p n) ≡ 0 → p i ≡ false) [
-      | true ↦ (λ t f. absurd (omega arith))
-      | false ↦ (λ t f. elim (eqb_tells i n) [
-        | inl q ↦ ap p q.1 ∙ t
-        | inr q ↦ (let below : i < n = (let o = q.1 in grind (arith, nat_tests)) in
-            count_zero p n f i below)
-      ])
-    ]) refl e
-
-pub zero_count : (p : ℕ → Bool) (n : ℕ) → ((i : ℕ) → i < n → p i ≡ false) → count_of p n ≡ 0
-zero_count p n h = count_alike p (λ i. false) n h ∙ count_none n
 
 pub waits_count : (l : Shape) (ws : List Waiting) → AreWaits l ws
     → count_of (λ b. is_some (wait_in ws b)) (blocks l) ≡ length ws

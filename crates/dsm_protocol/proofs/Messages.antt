@@ -1,12 +1,8 @@
 -- What holds of messages with their stamps, of the messages alone.
-use Rattle.std.proofs.Common.{◌≡◌, ◌≢◌, ℕ, true, false, cond, eqb, ◌&&◌, List, [], ◌∷◌, ◌++◌, map, refl, ap, ◌∙◌}
-use Rattle.home_directory.specs.dsm_messages.declared.messages.Post.{Post}
-use Rattle.home_directory.specs.dsm_messages.declared.messages.Wire.{Wire}
-use Rattle.message_queues.specs.node_model.Core.{wires_to}
-use Rattle.message_queues.specs.Queue.{Queue, wires_of, message_of, list_of, SameWires, IsSent, IsTaken}
+use Rattle.std.proofs.Common.{◌≡◌, ℕ, true, false, cond, eqb, ◌&&◌, List, [], ◌∷◌, ◌++◌, map, refl, ap, ◌∙◌}
+use Rattle.dsm_protocol.proofs.Names.{Post, Wire, wires_to, Queue, message_of, list_of, SameWires, IsSent, IsTaken, messages_to, SameMessages, AreSent, IsMessageTaken}
+use Rattle.message_queues.specs.Queue.{wires_of}
 use Rattle.message_queues.proofs.Squares.{wire_with}
-use Rattle.dsm_protocol.specs.World.{messages_to}
-use Rattle.dsm_protocol.specs.Messages.{SameMessages, AreSent, IsMessageTaken}
 
 pub same_messages : (a b : List Queue) (n : ℕ) → SameWires a b n → SameMessages a b n
 same_messages a b n same j i bj bi = ap (map message_of) (same j i bj bi)
@@ -48,6 +44,3 @@ messages_sent a b n j stamp ps sent x y bx by = ap (map message_of) (sent x y bx
 pub no_messages : (qs : List Queue) (n : ℕ) → ((j i : ℕ) → wires_of qs n j i ≡ [])
     → (j i : ℕ) → list_of qs n j i ≡ []
 no_messages qs n none j i = ap (map message_of) (none j i)
-
-pub some_wires : (qs : List Queue) (n j i : ℕ) → list_of qs n j i ≢ [] → wires_of qs n j i ≢ []
-some_wires qs n j i some none = some (ap (map message_of) none)

@@ -1,35 +1,22 @@
 -- The promises, by the law of the protocol.
 use Rattle.std.proofs.Common.{◌≡◌, ◌≢◌, ℕ, ◌*◌, ◌<◌, ◌≤◌, Bool, true, false, cond, ltb, List, ◌∷◌, get_or, refl, sym, ap, ◌∙◌, subst, Option, Some, None, arith}
 use Rattle.std.proofs.lemmas.Bool.Decides.{nat_tests}
-use Rattle.block_layout.specs.Layout.{Shape, blocks, home}
-use Rattle.state_table.specs.declared.State.{State}
-use Rattle.state_table.specs.declared.State.TheVariants.{Exclusive, Shared, Invalid, Pending}
-use Rattle.state_table.specs.StateByte.{can_read, can_write}
-use Rattle.home_directory.specs.flag_memory.Flag.{flags}
-use Rattle.home_directory.specs.declared.wait.Wait.{Wait}
+use Rattle.dsm_protocol.proofs.Names.{Shape, blocks, home, State, Exclusive, can_read, can_write, flags, Wait, World, Contents, contents, wait_of, wires_of, setting_of, most_waits, IsLaid, Sound, HasNoBye, NoByes, size, Leads, ReadsMemory, OneWriter, Flagged, RowsCome, NeverStuck}
 use Rattle.coherence.specs.Messages as m
 use Rattle.coherence.specs.Machine as k
 use Rattle.coherence.specs.Claims as claims
-use Rattle.dsm_protocol.specs.World.{World}
-use Rattle.dsm_protocol.specs.Abstraction.{Contents, contents, state_of, wait_of, wires_of, setting_of, most_waits}
-use Rattle.dsm_protocol.specs.Sound.{IsLaid, Sound, HasNoBye, NoByes, size}
-use Rattle.dsm_protocol.specs.Events.{Leads}
-use Rattle.dsm_protocol.specs.Promises.{ReadsMemory, OneWriter, Flagged, RowsCome, NeverStuck}
+use Rattle.dsm_protocol.specs.Abstraction.{state_of}
 use Rattle.dsm_protocol.proofs.NodeRows.{len_flags, flagged}
 use Rattle.dsm_protocol.proofs.Bytes.{same_bytes, contents_get}
 use Rattle.dsm_protocol.proofs.Taking.{take_leads}
 
 pub read_same : (s : State) → m.can_read (state_of s) ≡ can_read s
 read_same Exclusive = refl
-read_same Shared = refl
-read_same Invalid = refl
-read_same Pending = refl
+read_same other = refl
 
 pub write_same : (s : State) → m.can_write (state_of s) ≡ can_write s
 write_same Exclusive = refl
-write_same Shared = refl
-write_same Invalid = refl
-write_same Pending = refl
+write_same other = refl
 
 -- up to 16 nodes wait for up to 32 blocks in all
 waits_room : (n : ℕ) → n ≤ 16 → n * most_waits n ≤ 32

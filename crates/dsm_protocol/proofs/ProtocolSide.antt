@@ -1,46 +1,19 @@
 -- The protocol's side of a composition with nodes that run code: what holds of the nodes and lists,
 -- and what each event leaves.
 use Rattle.std.proofs.Common.{◌≡◌, ◌≢◌, ℕ, ◌+◌, ◌-◌, ◌*◌, ◌/◌, ◌%◌, ◌^◌, ◌<◌, ◌≤◌, Bool, true, false, not, cond, eqb, leb, ltb, ◌&&◌, ◌||◌, ◌⊎◌, List, [], ◌∷◌, ◌++◌, length, get_or, drop, append-nil, length-append, refl, sym, ap, ◌∙◌, subst, inl, inr, Option, Some, None, arith}
-use Rattle.std.specs.Prelude.{is_some}
 use Rattle.std.proofs.lemmas.Bool.Decides.{eqb_tells, nat_tests}
-use Rattle.rv32_decode.specs.declared.Width.{Width}
-use Rattle.rv32_decode.specs.Widths.{size_of, is_aligned}
-use Rattle.home_directory.specs.byte_range.Memory.{stored}
-use Rattle.block_layout.specs.Layout.{Shape, IsValid, blocks, home, first_line, block_of}
-use Rattle.block_layout.specs.Update.{changed}
-use Rattle.buf_pool.specs.Pool.{Buffer}
-use Rattle.state_table.specs.declared.State.{State}
-use Rattle.state_table.specs.declared.State.TheVariants.{Exclusive, Shared, Invalid, Pending}
-use Rattle.state_table.specs.StateByte.{can_read, can_write}
-use Rattle.home_directory.specs.flag_memory.Copy.{bytes_from}
-use Rattle.home_directory.specs.flag_memory.Flag.{flags}
-use Rattle.home_directory.specs.dsm_messages.declared.messages.Need.{Need}
+use Rattle.dsm_protocol.proofs.Names.{Width, size_of, is_aligned, stored, Shape, IsValid, blocks, home, first_line, block_of, changed, Buffer, State, Exclusive, Shared, can_read, can_write, bytes_from, flags, Need, Message, Read, Write, FwdRead, FwdWrite, Inval, Data, Grant, Ack, Done, Bye, Post, Wait, meets, state_in_wait, request, first_wait, Miss, want_row, post, Row, AtHome, AtNode, taker_in, is_bye, update, World, local_block, messages_to, after_miss, page, Contents, contents, need_of, wait_of, wire_of, wires_of, setting_of, most_waits, IsLaid, IsRoomy, IsSound, AreSound, size, row_of, after_row, sends_in, pending, address_of, memory_at, byte_in, store_in, HoldsBy, Holds, Opens, after_store, SameBut, wanted, AfterWant, NoneIs, AreByes, AfterTake, after_bye, after_byes, AreSettled, has_message}
 use Rattle.home_directory.specs.dsm_messages.declared.messages.Need.TheVariants as want
-use Rattle.home_directory.specs.dsm_messages.declared.messages.Message.{Message}
-use Rattle.home_directory.specs.dsm_messages.declared.messages.Message.TheVariants.{Read, Write, FwdRead, FwdWrite, Inval, Data, Grant, Ack, Done, Bye}
-use Rattle.home_directory.specs.dsm_messages.declared.messages.Post.{Post}
-use Rattle.home_directory.specs.declared.wait.Wait.{Wait}
-use Rattle.home_directory.specs.Table.{meets, state_in_wait, request, first_wait, Miss, want_row}
-use Rattle.home_directory.specs.Home.{post}
 use Rattle.message_queues.specs.node_model.miss_handlers.Effects.{block_facts as facts}
-use Rattle.message_queues.specs.node_model.miss_handlers.Rows.{Row, AtHome, AtNode, taker_in, is_bye}
 use Rattle.coherence.specs.Messages as m
 use Rattle.coherence.specs.Machine as k
-use Rattle.coherence.specs.Table.{update}
 use Rattle.coherence.specs.Claims as claims
 use Rattle.coherence.proofs.Theorem.{all_coherent, all_one_writer, all_rows, all_moves, all_settles, all_takers, all_few_waits, all_waiters}
-use Rattle.dsm_protocol.specs.World.{World, local_block, messages_to, after_miss}
-use Rattle.dsm_protocol.specs.Abstraction.{page, Contents, contents, need_of, wait_of, wire_of, wires_of, setting_of, most_waits}
-use Rattle.dsm_protocol.specs.Sound.{IsLaid, IsRoomy, IsSound, AreSound, size}
-use Rattle.dsm_protocol.specs.Events.{row_of, after_row, sends_in, pending}
-use Rattle.dsm_protocol.specs.Memory.{address_of, memory_at, byte_in, store_in}
-use Rattle.dsm_protocol.specs.Holds.{HoldsBy, Holds, Opens, after_store, SameBut, wanted, AfterWant, NoneIs, AreByes, AfterTake, after_bye, after_byes, AreSettled, has_message}
 use Rattle.dsm_protocol.proofs.Bytes.{store_get, contents_get}
 use Rattle.dsm_protocol.proofs.Openings.{LineLaws, contents_in, world_opens, get_from, len_from}
 use Rattle.dsm_protocol.proofs.Alike.{Alike, alike_stands, alike_sound}
 use Rattle.dsm_protocol.proofs.Promised.{proper, reads_memory, one_writer, flagged_lines, some_waits, write_same}
 use Rattle.dsm_protocol.proofs.Stores.{fits_line, stored_at, misses}
-use Rattle.dsm_protocol.proofs.Counting.{count_one, count_zero, zero_count}
 use Rattle.dsm_protocol.proofs.Fits.{wires_append}
 use Rattle.dsm_protocol.proofs.SoundRows.{SoundPosts, IsAbout, sound_append}
 use Rattle.dsm_protocol.proofs.Taking.{IsRowOf, steps_more, take_leads}
@@ -102,35 +75,22 @@ place_node c i b v d o = place_other c i b v i d (λ e f. o f)
 
 writes_in_wait : (s : State) → can_write s ≡ true → can_write (state_in_wait s) ≡ true
 writes_in_wait Exclusive e = refl
-writes_in_wait Shared e = absurd cc
-writes_in_wait Invalid e = absurd cc
-writes_in_wait Pending e = absurd cc
+writes_in_wait other e = absurd cc
 
 reads_in_wait : (s : State) → can_read s ≡ true → can_read (state_in_wait s) ≡ true
 reads_in_wait Exclusive e = refl
 reads_in_wait Shared e = refl
-reads_in_wait Invalid e = absurd cc
-reads_in_wait Pending e = absurd cc
+reads_in_wait other e = absurd cc
 
 writes_read : (s : m.State) → m.can_write s ≡ true → m.can_read s ≡ true
 writes_read m.Exclusive e = refl
-writes_read m.Shared e = absurd cc
-writes_read m.Invalid e = absurd cc
-writes_read m.Pending e = absurd cc
+writes_read other e = absurd cc
 
 -- 2. Byes stand for nothing
 
 bye_wire : (message : Message) → is_bye message ≡ true → wire_of message ≡ []
 bye_wire Bye e = refl
-bye_wire (Read b buf) e = absurd cc
-bye_wire (Write b buf) e = absurd cc
-bye_wire (FwdRead b r buf) e = absurd cc
-bye_wire (FwdWrite b r n buf) e = absurd cc
-bye_wire (Inval b r) e = absurd cc
-bye_wire (Data b n buf) e = absurd cc
-bye_wire (Grant b n buf) e = absurd cc
-bye_wire (Ack b) e = absurd cc
-bye_wire (Done b) e = absurd cc
+bye_wire other e = absurd cc
 
 only_byes : (ms : List Message) → has_message ms ≡ false → wires_of ms ≡ []
 only_byes [] e = refl
@@ -171,8 +131,7 @@ bye_sound l (FwdWrite b r n buf) e = absurd cc
 bye_sound l (Inval b r) e = tt
 bye_sound l (Data b n buf) e = absurd cc
 bye_sound l (Grant b n buf) e = absurd cc
-bye_sound l (Ack b) e = tt
-bye_sound l (Done b) e = tt
+bye_sound l other e = tt
 
 sound_byes : (l : Shape) (y : ℕ) (byes : List Post) → AreByes byes → AreSound l (messages_to y byes)
 sound_byes l y [] a = tt
@@ -195,8 +154,7 @@ need_write want.Read e = absurd cc
 wants_write : (o : Option Wait) (y : m.Wait Contents) → wait_of o ≡ Some y → y.need ≡ m.Write
     → wanted o ≡ Some want.Write
 wants_write None y e n = absurd cc
-wants_write (Some x) y e n =
-    ap (λ z. Some z) (need_write x.need (ap (λ o. need_in o) e ∙ n))
+wants_write (Some x) y e n = ap (λ z. Some z) (need_write x.need (ap (λ o. need_in o) e ∙ n))
   where
     need_in : Option (m.Wait Contents) → m.Need
     need_in None = m.Read
@@ -205,33 +163,6 @@ wants_write (Some x) y e n =
 still_wanted : (o : Option Wait) (need : Need) → wanted o ≡ Some need → o ≡ None → ⊥
 still_wanted None need e gone = absurd cc
 still_wanted (Some x) need e gone = absurd cc
-
-wanted_some : (o : Option Wait) (need : Need) → wanted o ≡ Some need → is_some o ≡ true
-wanted_some None need e = absurd cc
-wanted_some (Some x) need e = refl
-
-none_of : (o : Option Wait) → is_some o ≡ false → o ≡ None
-none_of None e = refl
-none_of (Some x) e = absurd cc
-
--- a node waits for one block more
-pub pending_more : (l : Shape) (i b : ℕ) (need : Need) (old new : World) → b < blocks l
-    → old.wait i b ≡ None → AfterWant i b need old new → pending l new i ≡ pending l old i + 1
-pending_more l i b need old new bb idle after =
-    count_one (λ d. is_some (new.wait i d)) (λ d. is_some (old.wait i d)) (blocks l) b bb
-    (wanted_some (new.wait i b) need after.own) (ap is_some idle)
-    (λ d o. ap is_some (after.waits i d (λ e f. o f)))
-
--- it waits for none
-pub no_wait : (l : Shape) (w : World) (i : ℕ) → pending l w i ≡ 0 → (b : ℕ) → b < blocks l
-    → w.wait i b ≡ None
-no_wait l w i e b bb = none_of (w.wait i b)
-    (count_zero (λ d. is_some (w.wait i d)) (blocks l) e b bb)
-
-pub none_pending : (l : Shape) (w : World) (i : ℕ)
-    → ((b : ℕ) → b < blocks l → w.wait i b ≡ None) → pending l w i ≡ 0
-none_pending l w i idle = zero_count (λ d. is_some (w.wait i d)) (blocks l)
-    (λ b bb. ap is_some (idle b bb))
 
 module _ (laws : LineLaws) (l : Shape) (valid : IsValid l) (laid : IsLaid l) where
   -- an address of a block is inside it
@@ -262,8 +193,7 @@ module _ (laws : LineLaws) (l : Shape) (valid : IsValid l) (laid : IsLaid l) whe
             let len = len_from first (address_of l b) (size l b) in
             sym (byte_is (contents_in l first) a b at
             ∙ contents_get (bytes_from first (address_of l b) (size l b)) n (omega arith)
-            ∙ get_from first (address_of l b) (size l b) n high
-            ∙ ap first (omega arith));
+            ∙ get_from first (address_of l b) (size l b) n high ∙ ap first (omega arith));
       }
 
   -- only nodes and blocks of the layout, and addresses of blocks, are seen
@@ -273,15 +203,6 @@ module _ (laws : LineLaws) (l : Shape) (valid : IsValid l) (laid : IsLaid l) whe
     sound = alike_sound l w v alike h.by.sound;
     leads = alike_stands l laid w v _ alike h.by.leads;
     same = h.by.same;
-  }
-
-  pub like_memory : (w : World) (old new : ℕ → ℕ)
-      → ((a b : ℕ) → block_of l (a / 64) ≡ Some b → new a ≡ old a) → (h : Holds l w old)
-      → HoldsBy l h.first h.events w new
-  like_memory w old new alike h = record {
-    sound = h.by.sound;
-    leads = h.by.leads;
-    same = λ a b at. alike a b at ∙ h.by.same a b at;
   }
 
   module _ (w : World) (memory : ℕ → ℕ) (h : Holds l w memory) where
@@ -296,8 +217,7 @@ module _ (laws : LineLaws) (l : Shape) (valid : IsValid l) (laid : IsLaid l) whe
 
     -- a readable byte is the memory's
     pub coherent : (i a b : ℕ) → i < l.nodes → block_of l (a / 64) ≡ Some b
-        → can_read (w.state i b) ≡ true
-        → get_or (w.bytes i b) (a - address_of l b) 0 ≡ memory a
+        → can_read (w.state i b) ≡ true → get_or (w.bytes i b) (a - address_of l b) 0 ≡ memory a
     coherent i a b bi at can =
         let z = inside a b at in
         reads_memory l laid h.first h.events w h.by.sound h.by.leads
@@ -315,9 +235,6 @@ module _ (laws : LineLaws) (l : Shape) (valid : IsValid l) (laid : IsLaid l) whe
         → w.bytes i b ≡ flags (size l b)
     flagged = flagged_lines l laid h.first h.events w h.by.sound h.by.leads
         (all_coherent Contents s p h.events)
-
-    pub sizes : (i b : ℕ) → i < l.nodes → b < blocks l → length (w.bytes i b) ≡ size l b
-    sizes = h.by.sound.bytes
 
     -- a store to a block that the node may write
     module _ (i b : ℕ) (x : Width) (a v : ℕ) (bi : i < l.nodes) (aligned : is_aligned x a ≡ true)
@@ -357,8 +274,7 @@ module _ (laws : LineLaws) (l : Shape) (valid : IsValid l) (laid : IsLaid l) whe
             stored_at x memory a v y
             ∙ ap (λ u. cond (hit y) (v / 2 ^ (8 * (y - a)) % 2 ^ 8) u) (sym own)
             ∙ ap (λ u. cond (hit u) (v / 2 ^ (8 * (u - a)) % 2 ^ 8) (get_or (c.memory b) n 0))
-            (sym y_is)
-            ∙ sym (store_get x a v (address_of l b) (c.memory b) n (omega arith))
+            (sym y_is) ∙ sym (store_get x a v (address_of l b) (c.memory b) n (omega arith))
             ∙ ap (λ u. get_or (write (c.memory b)) (y - address_of l u) 0) (sym q.1))
         | inr q ↦ rw q.0 (stored_at x memory a v y
             ∙ ap (λ t. cond t (v / 2 ^ (8 * (y - a)) % 2 ^ 8) (memory y))
@@ -394,8 +310,7 @@ module _ (laws : LineLaws) (l : Shape) (valid : IsValid l) (laid : IsLaid l) whe
         → meets need (w.state i b) ≡ false → IsRoomy buf
         → (miss : Miss) × (want_row (facts l b) (local_block w i b) b need buf ≡ Some miss)
         × HoldsBy l h.first (h.events ++ k.Want i b (need_of need) ∷ []) (after_miss w i b miss)
-        memory
-        × AfterWant i b need w (after_miss w i b miss)
+        memory × AfterWant i b need w (after_miss w i b miss)
         × (k.may_want s c i b (need_of need) ≡ true)
     wants i b need buf bi bb idle few unmet roomy =
         let state = state_in_wait (w.state i b) in
@@ -452,8 +367,7 @@ module _ (laws : LineLaws) (l : Shape) (valid : IsValid l) (laid : IsLaid l) whe
             let bad : false ≡ true = sym may_not ∙ may in cc
 
     -- a block is taken away for another node
-    taken_for : (i j b r : ℕ) (fm : m.ForwardMessage) (ws : List (k.Wire Contents))
-        → b < blocks l
+    taken_for : (i j b r : ℕ) (fm : m.ForwardMessage) (ws : List (k.Wire Contents)) → b < blocks l
         → c.list j i ≡ record { block = b; body = m.Forward fm } ∷ ws → claims.taker fm ≡ Some r
         → (r < l.nodes) × (r ≢ i) × (wanted (w.wait r b) ≡ Some want.Write)
     taken_for i j b r fm ws bb front named =
@@ -471,14 +385,7 @@ module _ (laws : LineLaws) (l : Shape) (valid : IsValid l) (laid : IsLaid l) whe
         taken_for i j b r (m.Inval q) (wires_of rest) bb
         (front ∙ ap (λ z. record { block = z; body = m.Forward (m.Inval q) } ∷ wires_of rest)
         about) named
-    taken_by i j b r (Read d buf) rest bb about front named = absurd cc
-    taken_by i j b r (Write d buf) rest bb about front named = absurd cc
-    taken_by i j b r (FwdRead d q buf) rest bb about front named = absurd cc
-    taken_by i j b r (Data d n buf) rest bb about front named = absurd cc
-    taken_by i j b r (Grant d n buf) rest bb about front named = absurd cc
-    taken_by i j b r (Ack d) rest bb about front named = absurd cc
-    taken_by i j b r (Done d) rest bb about front named = absurd cc
-    taken_by i j b r Bye rest bb about front named = absurd cc
+    taken_by i j b r other rest bb about front named = absurd cc
 
     after_take : (i j : ℕ) (message : Message) (rest : List Message) → i < l.nodes → j < l.nodes
         → w.list j i ≡ message ∷ rest → (row : Row) → RowFacts l w i message row

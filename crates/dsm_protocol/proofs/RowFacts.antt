@@ -1,25 +1,9 @@
 -- What each row of the table does to a wait and to a state, and what it sends to homes.
 use Rattle.std.proofs.Common.{◌≡◌, ℕ, zero, suc, ◌<◌, Bool, true, false, cond, eqb, ltb, ◌&&◌, ◌⊎◌, List, [], ◌∷◌, ◌++◌, refl, sym, ap, ◌∙◌, subst, inl, inr, Option, Some, None, arith}
 use Rattle.std.proofs.lemmas.Bool.Decides.{nat_tests}
-use Rattle.block_layout.specs.Layout.{Shape, blocks, home}
-use Rattle.buf_pool.specs.Pool.{Buffer}
-use Rattle.state_table.specs.StateByte.{can_read, can_write}
-use Rattle.home_directory.specs.dsm_messages.declared.messages.Need.{Need}
+use Rattle.dsm_protocol.proofs.Names.{Shape, blocks, home, Buffer, can_read, can_write, Need, Message, Read, Write, FwdRead, FwdWrite, Inval, Data, Grant, Ack, Done, Bye, Post, Wait, ByData, ByGrant, Busy, Request, DirectoryEntry, Home, others, done_with, post, invals, BlockFacts, LocalBlock, NodeRow, HomeRow, Start, meets, state_for, bytes_by, is_complete, completion, with_answer, one_ack_more, data_row, grant_row, ack_row, node_row, read_start, grant_start, write_start, start_row, start_at, ask_when, ask_row, start_or, next_or, done_when, done_row, Row, AtHome, AtNode, home_of, if_home, at_home, at_node, node_row_of, taker_in, takes_away, World, local_block, holding, row_of, wanted, is_for_home, NoneIs}
 use Rattle.home_directory.specs.dsm_messages.declared.messages.Need.TheVariants as want
-use Rattle.home_directory.specs.dsm_messages.declared.messages.Message.{Message}
-use Rattle.home_directory.specs.dsm_messages.declared.messages.Message.TheVariants.{Read, Write, FwdRead, FwdWrite, Inval, Data, Grant, Ack, Done, Bye}
-use Rattle.home_directory.specs.dsm_messages.declared.messages.Post.{Post}
-use Rattle.home_directory.specs.declared.wait.Wait.{Wait}
-use Rattle.home_directory.specs.declared.wait.Answer.TheVariants.{ByData, ByGrant}
-use Rattle.home_directory.specs.declared.directory.Busy.{Busy}
-use Rattle.home_directory.specs.declared.directory.Request.{Request}
-use Rattle.home_directory.specs.Home.{DirectoryEntry, Home, others, done_with, post, invals}
-use Rattle.home_directory.specs.Table.{BlockFacts, LocalBlock, NodeRow, HomeRow, Start, meets, state_for, bytes_by, is_complete, completion, with_answer, one_ack_more, data_row, grant_row, ack_row, node_row, read_start, grant_start, write_start, start_row, start_at, ask_when, ask_row, start_or, next_or, done_when, done_row}
 use Rattle.message_queues.specs.node_model.miss_handlers.Effects.{block_facts as facts}
-use Rattle.message_queues.specs.node_model.miss_handlers.Rows.{Row, AtHome, AtNode, home_of, if_home, at_home, at_node, node_row_of, taker_in, takes_away}
-use Rattle.dsm_protocol.specs.World.{World, local_block}
-use Rattle.dsm_protocol.specs.Events.{holding, row_of}
-use Rattle.dsm_protocol.specs.Holds.{wanted, is_for_home, NoneIs}
 use Rattle.dsm_protocol.proofs.SoundRows.{IfSome, if_cond, if_when, IsAbout}
 
 abbrev pub Calm : List Post → Type 0
@@ -96,8 +80,7 @@ module _ (f : BlockFacts) (old : LocalBlock) (b : ℕ) (message : Message) where
   grant_facts j k buf (Some x) is = if_cond (NodeFacts old message) _ _
       (settled x (with_answer x (ByGrant k buf)) is refl)
 
-  ack_facts : (o : Option Wait) → old.wait ≡ o
-      → IfSome (NodeFacts old message) (ack_row f old b o)
+  ack_facts : (o : Option Wait) → old.wait ≡ o → IfSome (NodeFacts old message) (ack_row f old b o)
   ack_facts None is = tt
   ack_facts (Some x) is = if_cond (NodeFacts old message) _ _
       (settled x (one_ack_more x) is refl)
@@ -136,10 +119,7 @@ node_facts f j old (Inval b r) = if_cond (NodeFacts old (Inval b r)) _ _ (record
 node_facts f j old (Data b k buf) = data_facts f old b (Data b k buf) k buf old.wait refl
 node_facts f j old (Grant b k buf) = grant_facts f old b (Grant b k buf) j k buf old.wait refl
 node_facts f j old (Ack b) = ack_facts f old b (Ack b) old.wait refl
-node_facts f j old (Read b buf) = tt
-node_facts f j old (Write b buf) = tt
-node_facts f j old (Done b) = tt
-node_facts f j old Bye = tt
+node_facts f j old other = tt
 
 -- a home sends nothing to a home
 calm_append : (xs ys : List Post) → Calm xs → Calm ys → Calm (xs ++ ys)

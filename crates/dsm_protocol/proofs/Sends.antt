@@ -1,15 +1,8 @@
 -- A row sends no more messages than the core's, where to each node the same is sent.
 use Rattle.std.proofs.Common.{◌≡◌, ℕ, zero, suc, ◌+◌, ◌<◌, ◌≤◌, ◌⊎◌, Bool, true, false, cond, eqb, List, [], ◌∷◌, length, refl, ap, inl, inr, arith}
 use Rattle.std.proofs.lemmas.Bool.Decides.{nat_tests}
-use Rattle.block_layout.specs.Layout.{Shape}
-use Rattle.home_directory.specs.dsm_messages.declared.messages.Message.{Message}
-use Rattle.home_directory.specs.dsm_messages.declared.messages.Message.TheVariants.{Read, Write, FwdRead, FwdWrite, Inval, Data, Grant, Ack, Done, Bye}
-use Rattle.home_directory.specs.dsm_messages.declared.messages.Post.{Post}
-use Rattle.message_queues.specs.node_model.miss_handlers.Rows.{is_bye}
+use Rattle.dsm_protocol.proofs.Names.{Shape, Message, Read, Write, FwdRead, FwdWrite, Inval, Data, Grant, Ack, Done, Bye, Post, is_bye, those_to, wires, messages_to, Contents, wires_of}
 use Rattle.coherence.specs.Messages as m
-use Rattle.coherence.specs.Machine.{those_to, wires}
-use Rattle.dsm_protocol.specs.World.{messages_to}
-use Rattle.dsm_protocol.specs.Abstraction.{Contents, wires_of}
 use Rattle.dsm_protocol.proofs.Fits.{SameSends}
 use Rattle.dsm_protocol.proofs.SoundRows.{SoundPosts}
 
@@ -42,8 +35,7 @@ one_across : (k n : ℕ) → ((n ≤ k) × (across (λ y. bit (eqb k y)) n ≡ 0
 one_across k zero = inl (omega arith, refl)
 one_across k (suc n) = go (eqb k n) refl (one_across k n)
   where
-    go : (t : Bool) → eqb k n ≡ t
-        → ((n ≤ k) × (across (λ y. bit (eqb k y)) n ≡ 0))
+    go : (t : Bool) → eqb k n ≡ t → ((n ≤ k) × (across (λ y. bit (eqb k y)) n ≡ 0))
         ⊎ ((k < n) × (across (λ y. bit (eqb k y)) n ≡ 1))
         → ((suc n ≤ k) × (across (λ y. bit (eqb k y)) n + bit (eqb k n) ≡ 0))
         ⊎ ((k < suc n) × (across (λ y. bit (eqb k y)) n + bit (eqb k n) ≡ 1))

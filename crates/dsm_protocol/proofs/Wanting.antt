@@ -2,28 +2,12 @@
 use Rattle.std.proofs.Common.{◌≡◌, ℕ, zero, suc, ◌+◌, ◌*◌, ◌<◌, ◌≤◌, Bool, true, false, not, cond, eqb, List, [], ◌∷◌, ◌++◌, length, refl, sym, ap, ◌∙◌, subst, inl, inr, Option, Some, None, arith, append-nil}
 use Rattle.std.specs.Prelude.{is_some}
 use Rattle.std.proofs.lemmas.Bool.Decides.{eqb_tells, nat_tests}
-use Rattle.block_layout.specs.Layout.{Shape, blocks, home, first_line}
-use Rattle.state_table.specs.declared.State.{State}
-use Rattle.state_table.specs.declared.State.TheVariants.{Exclusive, Shared, Invalid, Pending}
-use Rattle.state_table.specs.StateByte.{can_write}
-use Rattle.buf_pool.specs.Pool.{Buffer}
-use Rattle.rv32_decode.specs.declared.Width.{Width}
-use Rattle.rv32_decode.specs.Widths.{size_of}
-use Rattle.home_directory.specs.dsm_messages.declared.messages.Need.{Need}
+use Rattle.dsm_protocol.proofs.Names.{Shape, blocks, home, first_line, State, Exclusive, Shared, Invalid, Pending, can_write, Buffer, Width, size_of, Need, Message, Wait, count_of, post, meets, state_in_wait, request, first_wait, Miss, want_row, count, World, with_sends, after_miss, Contents, contents, need_of, wait_of, wire_of, wires_of, setting_of, StandsFor, most_waits, IsLaid, IsRoomy, AreSound, HasNoBye, NoByes, Sound, size, pending, Leads, store_bytes, store_in}
 use Rattle.home_directory.specs.dsm_messages.declared.messages.Need.TheVariants as want
-use Rattle.home_directory.specs.dsm_messages.declared.messages.Message.{Message}
-use Rattle.home_directory.specs.declared.wait.Wait.{Wait}
-use Rattle.home_directory.specs.Home.{count_of, post}
-use Rattle.home_directory.specs.Table.{meets, state_in_wait, request, first_wait, Miss, want_row}
 use Rattle.coherence.specs.Messages as m
-use Rattle.coherence.specs.Table.{count}
 use Rattle.coherence.specs.Machine as k
-use Rattle.dsm_protocol.specs.World.{World, with_sends, after_miss}
-use Rattle.dsm_protocol.specs.Abstraction.{Contents, contents, need_of, state_of, wait_of, wire_of, wires_of, setting_of, StandsFor, most_waits}
-use Rattle.dsm_protocol.specs.Sound.{IsLaid, IsRoomy, AreSound, HasNoBye, NoByes, Sound, size}
+use Rattle.dsm_protocol.specs.Abstraction.{state_of}
 use Rattle.message_queues.specs.node_model.miss_handlers.Effects.{block_facts as facts}
-use Rattle.dsm_protocol.specs.Events.{pending, Leads}
-use Rattle.dsm_protocol.specs.Memory.{store_bytes, store_in}
 use Rattle.dsm_protocol.proofs.Bytes.{store_contents, store_length}
 use Rattle.dsm_protocol.proofs.Fits.{wires_append}
 use Rattle.dsm_protocol.proofs.Simulation.{at_place}
@@ -36,15 +20,11 @@ meets_same want.Read Shared = refl
 meets_same want.Read Invalid = refl
 meets_same want.Read Pending = refl
 meets_same want.Write Exclusive = refl
-meets_same want.Write Shared = refl
-meets_same want.Write Invalid = refl
-meets_same want.Write Pending = refl
+meets_same want.Write other = refl
 
 wait_same : (s : State) → m.while_asked (state_of s) ≡ state_of (state_in_wait s)
 wait_same Exclusive = refl
-wait_same Shared = refl
-wait_same Invalid = refl
-wait_same Pending = refl
+wait_same other = refl
 
 request_is : (n : Need) (b : ℕ) (buf : Buffer) → wire_of (request n b buf)
     ≡ record { block = b; body = m.ToHome (m.Ask (need_of n)) } ∷ []
@@ -85,8 +65,7 @@ lists f c i h b message x y z is e = elim (eqb_tells y i) [
     | inl q ↦ (let q2 : eqb h z ≡ true = (let q3 = q.1 in grind (arith, nat_tests)) in
         rw (p.0, q.0)
         (rw q2 (ap (λ u. u ++ x ∷ []) (ap (λ u. f u h) (sym p.1) ∙ ap (f y) (sym q.1) ∙ e)
-        ∙ sym (wires_append (c y z) (message ∷ [])
-        ∙ ap (λ u. wires_of (c y z) ++ (u ++ [])) is))))
+        ∙ sym (wires_append (c y z) (message ∷ []) ∙ ap (λ u. wires_of (c y z) ++ (u ++ [])) is))))
     | inr q ↦ (let q2 : eqb h z ≡ false = (let q3 = q.1 in grind (arith, nat_tests)) in
         rw (p.0, q.0) (rw q2 (e ∙ ap wires_of (sym (append-nil (c y z))))))
   ]
@@ -107,8 +86,7 @@ module _ (l : Shape) (laid : IsLaid l) (first : ℕ → Contents) (es : List (k.
     block = record {
       state = state_in_wait (w.state i b);
       bytes = bs;
-      wait =
-          Some (first_wait need);
+      wait = Some (first_wait need);
     };
     post = post (home l b) (request need b buf);
   }
@@ -207,8 +185,7 @@ module _ (l : Shape) (laid : IsLaid l) (first : ℕ → Contents) (es : List (k.
       by_test false e r = let z : miss_of bs need buf ≡ miss = cc in
           subst (λ (y : Miss). Leads l first (es ++ k.Want i b (need_of need) ∷ [])
           (after_miss w i b y) × Sound l (after_miss w i b y)
-          × (NoByes l w → NoByes l (after_miss w i b y))) z
-          (want_by bs need buf idle few e roomy)
+          × (NoByes l w → NoByes l (after_miss w i b y))) z (want_by bs need buf idle few e roomy)
 
   -- a want of a block that meets the need changes nothing
   pub want_met : (need : Need) → meets need (w.state i b) ≡ true
@@ -236,8 +213,7 @@ module _ (l : Shape) (laid : IsLaid l) (first : ℕ → Contents) (es : List (k.
     store_copy y d by bd = elim (eqb_tells y i) [
       | inl p ↦ elim (eqb_tells d b) [
         | inl q ↦ rw (p.0, q.0) (ap (store_bytes x a value (64 * first_line l b))
-            (st.copy i b node block)
-            ∙ store_contents x a value (64 * first_line l b) (w.bytes i b)
+            (st.copy i b node block) ∙ store_contents x a value (64 * first_line l b) (w.bytes i b)
             (let e = sound.bytes i b node block in omega arith)
             ∙ ap contents (sym own) ∙ ap (λ z. contents (bytes z b)) (sym p.1)
             ∙ ap (λ z. contents (bytes y z)) (sym q.1))
@@ -249,9 +225,7 @@ module _ (l : Shape) (laid : IsLaid l) (first : ℕ → Contents) (es : List (k.
 
     can_same : (z : State) → can_write z ≡ m.can_write (state_of z)
     can_same Exclusive = refl
-    can_same Shared = refl
-    can_same Invalid = refl
-    can_same Pending = refl
+    can_same other = refl
 
     may_store : m.can_write (c.state i b) ≡ true
     may_store = ap m.can_write (st.state i b node block) ∙ sym (can_same (w.state i b)) ∙ can
@@ -261,8 +235,7 @@ module _ (l : Shape) (laid : IsLaid l) (first : ℕ → Contents) (es : List (k.
     store_leads = (
       subst (StandsFor l after_store) (sym
           (steps_more s es (k.Store i b (store_in l x a value b)) (k.opening s)
-          ∙ ap (λ z. cond z (k.store_in s c i b (store_in l x a value b)) c) may_store))
-          (record {
+          ∙ ap (λ z. cond z (k.store_in s c i b (store_in l x a value b)) c) may_store)) (record {
             owner = st.owner;
             sharers = st.sharers;
             busy = st.busy;

@@ -2,27 +2,9 @@
 use Rattle.std.proofs.Common.{◌≡◌, ℕ, ◌<◌, ◌≤◌, Bool, true, false, not, cond, eqb, List, [], ◌∷◌, ◌++◌, length, get_or, set, refl, sym, ap, ◌∙◌, subst, inl, inr, Option, Some, None, arith, append-nil}
 use Rattle.std.proofs.lemmas.Bool.Decides.{eqb_tells}
 use Rattle.std.proofs.lemmas.List.{get_or_default, length-set}
-use Rattle.block_layout.specs.Layout.{Shape, blocks}
-use Rattle.buf_pool.specs.Pool.{empty_buffer}
-use Rattle.state_table.specs.States.{state_of}
-use Rattle.home_directory.specs.flag_memory.Copy.{bytes_of}
-use Rattle.home_directory.specs.dsm_messages.declared.messages.Need.{Need}
-use Rattle.home_directory.specs.dsm_messages.declared.messages.Post.{Post}
-use Rattle.home_directory.specs.Effects.{Directory, entry_at, entries_of}
-use Rattle.home_directory.specs.Table.{meets, Miss, want_row}
+use Rattle.dsm_protocol.proofs.Names.{Shape, blocks, empty_buffer, state_of, bytes_of, Need, Post, Directory, entry_at, entries_of, meets, Miss, want_row, miss_of, states_after, waits_after, Event, Want, BareNode, messages_to, with_sends, after_miss, Contents, need_of, NoByes, Sound, Queue, list_of, AreQueues, SameMessages, AreSent, pending, Leads, Nodes, no_node, node_in, node_at, world_of, IsNode, AreReached, posts_of, HasWanted}
 use Rattle.message_queues.specs.node_model.miss_handlers.Waits.{wait_of}
-use Rattle.message_queues.specs.node_model.miss_handlers.Effects.{miss_of, states_after, waits_after}
-use Rattle.coherence.specs.Machine.{Event, Want}
-use Rattle.dsm_protocol.specs.declared.nodes.BareNode.{BareNode}
-use Rattle.dsm_protocol.specs.World.{messages_to, with_sends, after_miss}
-use Rattle.dsm_protocol.specs.Abstraction.{Contents, need_of}
-use Rattle.dsm_protocol.specs.Sound.{NoByes, Sound}
-use Rattle.message_queues.specs.Queue.{Queue, list_of, AreQueues}
-use Rattle.dsm_protocol.specs.Messages.{SameMessages, AreSent}
 use Rattle.message_queues.specs.node_model.miss_handlers.Effects.{block_facts as facts}
-use Rattle.dsm_protocol.specs.Events.{pending, Leads}
-use Rattle.dsm_protocol.specs.Nodes.{Nodes, no_node, node_in, node_at, world_of, IsNode, AreReached}
-use Rattle.dsm_protocol.specs.Want.{posts_of, HasWanted}
 use Rattle.dsm_protocol.proofs.Alike.{Alike, alike_stands, alike_sound, alike_no_byes, node_set}
 use Rattle.dsm_protocol.proofs.Wanting.{want_leads, want_met}
 use Rattle.dsm_protocol.proofs.Promised.{two_of_most}
@@ -138,11 +120,9 @@ module _ (l : Shape) (ns : List BareNode) (q0 q1 q2 : List Queue) (i b : ℕ) (n
   row_of x e =
       subst (λ f. want_row (facts l b) (record
       { state = (world_of p0).state i b; bytes = []; wait = f b }) b need
-      (empty_buffer old.pool.bytes) ≡ Some x) own_wait
-      (subst (λ f. want_row (facts l b) (record
+      (empty_buffer old.pool.bytes) ≡ Some x) own_wait (subst (λ f. want_row (facts l b) (record
       { state = f b; bytes = []; wait = wait_of old.waits b }) b need
-      (empty_buffer old.pool.bytes) ≡ Some x) own_state
-      (subst (λ z. want_row (facts z b) (record
+      (empty_buffer old.pool.bytes) ≡ Some x) own_state (subst (λ z. want_row (facts z b) (record
       { state = state_of old.states b; bytes = []; wait = wait_of old.waits b }) b need
       (empty_buffer old.pool.bytes) ≡ Some x) node_is.waits e))
 

@@ -95,8 +95,10 @@ local_of e l = record {
 abbrev pub home_in : Shape → ℕ → ℕ
 home_in l b = if nat_lt b (blocks l) then home l b else 0
 
--- how many blocks each of n nodes may wait for at a time: enough for two of each processor, with up
--- to four processors on a node and 16 in all; so all nodes together wait for 32 at most
+-- how many blocks each of n nodes may wait for at a time. A processor waits for two at most, and so
+-- does a node of one. The larger numbers are for nodes of up to four processors, 16 in all, whose
+-- processors wait apart. All nodes together wait for 32 at most, and so many requests have room at
+-- one home
 abbrev pub most_waits : ℕ → ℕ
 most_waits n =
     if nat_lt n 5 then 8 else (if nat_lt n 6 then 6 else (if nat_lt n 9 then 4 else 2))

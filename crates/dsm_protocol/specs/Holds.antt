@@ -115,7 +115,7 @@ pub record AfterTake (l : Shape) (i : ℕ) (m : Message) (row : Row) (old new : 
   pub says : NoneIs is_bye (sends_in row)
   pub calm : old.wait i (block_in row) ≡ None → NoneIs is_for_home (sends_in row)
 
--- node i takes a Bye from node j, with `rest` behind it
+-- node i takes a Bye from node j, with `rest` after it
 abbrev pub after_bye : World → (j i : ℕ) → List Message → World
 after_bye w j i rest = record w { list = with_list w.list j i rest }
 

@@ -1,7 +1,5 @@
 -- Helps the code alone: the entry, the requests that wait and the posts after a row or none.
 use Rattle.std.specs.Prelude.{◌≡◌, ◌≢◌, ℕ, Bool, List, [], length, Option, None, Some}
-use Rattle.buf_pool.specs.Pool.{Buffer}
-use Rattle.dsm_messages.specs.declared.messages.Need.{Need}
 use Rattle.home_directory.specs.declared.directory.DirectoryEntry as stored
 use Rattle.home_directory.specs.declared.directory.Request.{Request}
 use Rattle.home_directory.specs.Home.{Home, others}
@@ -36,11 +34,11 @@ abbrev pub next_of : ℕ → stored.DirectoryEntry → ℕ → List Request → 
 next_of n e b stored = next_or n (entry_of e) b (requests_for b stored)
 
 -- the start of a request, or none
-abbrev pub start_of : ℕ → stored.DirectoryEntry → (b r : ℕ) → Need → Buffer → Start
-start_of n e b r need buf = start_or (entry_of e) (start_row n (entry_of e) b r need buf)
+abbrev pub start_of : ℕ → stored.DirectoryEntry → Request → Start
+start_of n e q = start_or (entry_of e) (start_row n (entry_of e) q.block q.from q.need q.buf)
 
-abbrev pub after_ask : ℕ → Home → (b r : ℕ) → Need → Buffer → HomeRow
-after_ask n h b r need buf = row_or h (ask_row n h b r need buf)
+abbrev pub after_request : ℕ → Home → Request → HomeRow
+after_request n h q = row_or h (ask_row n h q.block q.from q.need q.buf)
 
 abbrev pub after_done : ℕ → Home → (b r : ℕ) → HomeRow
 after_done n h b r = row_or h (done_row n h b r)

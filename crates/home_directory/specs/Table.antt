@@ -7,6 +7,7 @@ use Rattle.buf_pool.specs.Pool.{Buffer}
 use Rattle.state_table.specs.declared.State.{State}
 use Rattle.state_table.specs.declared.State.TheVariants.{Exclusive, Shared, Invalid, Pending}
 use Rattle.state_table.specs.StateByte.{can_read, can_write}
+pub use Rattle.state_table.specs.StateByte.{is_shared, state_in_wait}
 use Rattle.flag_memory.specs.Flag.{flags}
 use Rattle.dsm_messages.specs.declared.messages.Need.{Need}
 use Rattle.dsm_messages.specs.declared.messages.Need.TheVariants.{Read as reading, Write as writing}
@@ -154,12 +155,6 @@ pub record NodeRow : Type 0 where
   pub clears : Bool
   pub gives_back : Bool
 
-abbrev pub is_shared : State → Bool
-is_shared Exclusive = false
-is_shared Shared = true
-is_shared Invalid = false
-is_shared Pending = false
-
 abbrev pub is_write : Need → Bool
 is_write reading = false
 is_write writing = true
@@ -294,13 +289,6 @@ node_row f l j Bye = None
 abbrev pub meets : Need → State → Bool
 meets reading state = can_read state
 meets writing state = can_write state
-
--- an invalid block becomes pending, and a shared one stays so
-abbrev pub state_in_wait : State → State
-state_in_wait Exclusive = Exclusive
-state_in_wait Shared = Shared
-state_in_wait Invalid = Pending
-state_in_wait Pending = Pending
 
 abbrev pub request : Need → ℕ → Buffer → Message
 request reading b buf = Read b buf

@@ -7,7 +7,7 @@ ghost use Rattle.home_directory.specs.Table.{first_leaves};
 ghost use Rattle.home_directory.specs.Effects.{entry_of, entries_of, is_home, ask_effect};
 ghost use Rattle.home_directory.specs.Effects.{done_effect};
 ghost use Rattle.home_directory.specs.Rows.{home_of, AreAfter, start_of, next_of, sharers_but};
-ghost use Rattle.home_directory.specs.Rows.{after_ask, after_done};
+ghost use Rattle.home_directory.specs.Rows.{after_request, after_done};
 
 use crate::request_lists::RequestLists;
 use block_layout::{Block, Layout};
@@ -142,9 +142,21 @@ impl Directory {
         self.waiting.len()
     }
 
-    /// Read or Write from a node: the row that the table has for it, or none. It leaves what is
-    /// sent, in order.
-    pub fn ask(&mut self, from: u8, block: Block, need: Need, buf: Buf, sends: &mut Sends)
+    /// Read or Write from a node: the row that the table has for it, or none, and what is sent, in
+    /// order.
+    pub fn ask(&mut self, from: u8, block: Block, need: Need, buf: Buf) -> Sends
+        ensures entries { entries_of self.new ≡ (ask_effect self.old from block need buf).entries }
+        ensures sends { result.items ≡ (ask_effect self.old from block need buf).sends }
+        ensures layout { self.new.layout ≡ self.old.layout }
+        ensures me { self.new.me ≡ self.old.me }
+    {
+        let mut sends = Sends::new();
+        self.ask_into(from, block, need, buf, &mut sends);
+        sends
+    }
+
+    /// The same as `ask`, but for where it leaves what is sent: in an empty list.
+    pub fn ask_into(&mut self, from: u8, block: Block, need: Need, buf: Buf, sends: &mut Sends)
         requires nothing { sends.old.items ≡ [] }
         ensures entries { entries_of self.new ≡ (ask_effect self.old from block need buf).entries }
         ensures sends { sends.new.items ≡ (ask_effect self.old from block need buf).sends }
@@ -156,21 +168,29 @@ impl Directory {
             return;
         }
         let entry = &mut self.entries[block as usize];
-        ask_at(
-            entry,
-            &mut self.waiting,
-            nodes,
+        let request = Request {
             block,
             from,
             need,
             buf,
-            sends,
-        );
+        };
+        ask_at(entry, &mut self.waiting, nodes, request, sends);
     }
 
-    /// Done from a node: the row that the table has for it, or none. It leaves what is sent, in
-    /// order.
-    pub fn done(&mut self, from: u8, block: Block, sends: &mut Sends)
+    /// Done from a node: the row that the table has for it, or none, and what is sent, in order.
+    pub fn done(&mut self, from: u8, block: Block) -> Sends
+        ensures entries { entries_of self.new ≡ (done_effect self.old from block).entries }
+        ensures sends { result.items ≡ (done_effect self.old from block).sends }
+        ensures layout { self.new.layout ≡ self.old.layout }
+        ensures me { self.new.me ≡ self.old.me }
+    {
+        let mut sends = Sends::new();
+        self.done_into(from, block, &mut sends);
+        sends
+    }
+
+    /// The same as `done`, but for where it leaves what is sent: in an empty list.
+    pub fn done_into(&mut self, from: u8, block: Block, sends: &mut Sends)
         requires nothing { sends.old.items ≡ [] }
         ensures entries { entries_of self.new ≡ (done_effect self.old from block).entries }
         ensures sends { sends.new.items ≡ (done_effect self.old from block).sends }
@@ -191,37 +211,32 @@ fn ask_at(
     entry: &mut DirectoryEntry,
     waiting: &mut RequestLists,
     nodes: u8,
-    block: Block,
-    from: u8,
-    need: Need,
-    buf: Buf,
+    request: Request,
     sends: &mut Sends,
 )
     requires nothing { sends.old.items ≡ [] }
     requires few { nodes ≤ 16 }
-    requires block { block < waiting.old.blocks }
-    ensures entry { let home = home_of entry.old waiting.old.requests block in
-        entry_of entry.new ≡ (after_ask nodes home block from need buf).home.entry }
-    ensures waiting { let home = home_of entry.old waiting.old.requests block in
-        AreAfter block waiting.old.requests waiting.new.requests
-        (after_ask nodes home block from need buf).home }
-    ensures sends { let home = home_of entry.old waiting.old.requests block in
-        sends.new.items ≡ (after_ask nodes home block from need buf).sends }
+    requires block { request.block < waiting.old.blocks }
+    ensures entry { let home = home_of entry.old waiting.old.requests request.block in
+        entry_of entry.new ≡ (after_request nodes home request).home.entry }
+    ensures waiting { let home = home_of entry.old waiting.old.requests request.block in
+        AreAfter request.block waiting.old.requests waiting.new.requests
+        (after_request nodes home request).home }
+    ensures sends { let home = home_of entry.old waiting.old.requests request.block in
+        sends.new.items ≡ (after_request nodes home request).sends }
     ensures blocks { waiting.new.blocks ≡ waiting.old.blocks }
 {
-    if from >= nodes {
+    if request.from >= nodes {
         return;
     }
     match entry.busy {
-        None => start(entry, nodes, block, from, need, buf, sends),
+        None => start(entry, nodes, request, sends),
         Some(busy) => {
-            if busy.node != from && !waiting.has(block, from) && !waiting.is_full() {
-                waiting.join(Request {
-                    block,
-                    from,
-                    need,
-                    buf,
-                });
+            if busy.node != request.from
+                && !waiting.has(request.block, request.from)
+                && !waiting.is_full()
+            {
+                waiting.join(request);
             }
         }
     }
@@ -261,21 +276,19 @@ fn done_at(
 }
 
 /// Begins a request at a block that isn't busy, where it meets a row.
-fn start(
-    entry: &mut DirectoryEntry,
-    nodes: u8,
-    block: Block,
-    from: u8,
-    need: Need,
-    buf: Buf,
-    sends: &mut Sends,
-)
+fn start(entry: &mut DirectoryEntry, nodes: u8, request: Request, sends: &mut Sends)
     requires nothing { sends.old.items ≡ [] }
     requires few { nodes ≤ 16 }
-    requires node { from < nodes }
-    ensures entry { entry_of entry.new ≡ (start_of nodes entry.old block from need buf).entry }
-    ensures sends { sends.new.items ≡ (start_of nodes entry.old block from need buf).sends }
+    requires node { request.from < nodes }
+    ensures entry { entry_of entry.new ≡ (start_of nodes entry.old request).entry }
+    ensures sends { sends.new.items ≡ (start_of nodes entry.old request).sends }
 {
+    let Request {
+        block,
+        from,
+        need,
+        buf,
+    } = request;
     let sharer = entry.sharers[from as usize];
     match need {
         Need::Read => {
@@ -366,15 +379,7 @@ fn start_next(
             if request.from >= nodes {
                 return;
             }
-            start(
-                entry,
-                nodes,
-                block,
-                request.from,
-                request.need,
-                request.buf,
-                sends,
-            );
+            start(entry, nodes, request, sends);
         }
         None => {}
     }

@@ -3,6 +3,8 @@
 //!
 //! The table of messages stands in `specs/Table.antt`, a row a case. [`Directory`] has the rows of
 //! a block's home: a request that finds the block busy waits there in order of arrival.
+//!
+//! It hands on what a home works with: [`state_table`], [`flag_memory`] and [`dsm_messages`].
 
 mod directory;
 mod request_lists;

@@ -14,6 +14,9 @@ use block_layout::Block;
 use std::alloc::{AllocError, Global};
 use std::marker::Model;
 
+/// How many requests may wait at a home.
+const MOST_WAITING: u8 = 32;
+
 /// A place for a request: it holds one, or is empty. It has the number of the next in its list.
 #[derive(Drop)]
 pub struct Slot {
@@ -64,9 +67,9 @@ impl RequestLists {
     pub fn new(alloc: Global, blocks: u32) -> Result<RequestLists, AllocError>
         ensures { IfOk result (λ w. w ≡ record { blocks = blocks; requests = [] }) }
     {
-        let mut places = Vec::with_capacity(alloc, 32)?;
+        let mut places = Vec::with_capacity(alloc, MOST_WAITING as usize)?;
         let mut empty = None;
-        for place in 0u8..32 {
+        for place in 0..MOST_WAITING {
             places.push_reserved(Slot {
                 request: None,
                 next: empty,
@@ -98,7 +101,7 @@ impl RequestLists {
     pub fn is_full(&self) -> bool
         ensures { result ≡ nat_le 32 (length self.now.requests) }
     {
-        self.len >= 32
+        self.len >= MOST_WAITING
     }
 
     /// Whether a request of a node for a block waits.

@@ -2,14 +2,18 @@
 //! A node's waits, and its replies to messages.
 //!
 //! A node that misses a block waits for it: [`Waits::want`]. [`Waits::on`] has the rows of the
-//! table of messages for the node that has a block or waits for it, and completes the waits.
+//! table of messages for the node that has a block or waits for it, and completes the waits. No row
+//! sends more than one message: [`Waits::reply`] is the same, and gives that one.
+//!
+//! It hands on the whole protocol: [`home_directory`], [`state_table`], [`flag_memory`],
+//! [`dsm_messages`] and [`llsc`].
 
 ghost use Rattle.std.specs.Prelude.{◌≡◌, ◌<◌, ◌≤◌, [], None, Some, IfOk, length};
 ghost use Rattle.std.specs.Prelude.{MatchOption, option_map};
 ghost use Rattle.home_directory.specs.declared.wait.Wait.{Wait};
 ghost use Rattle.block_layout.specs.Layout.{blocks};
 ghost use Rattle.home_directory.specs.state_table.States.{state_of};
-ghost use Rattle.home_directory.specs.Table.{meets, state_in_wait, request};
+ghost use Rattle.home_directory.specs.Table.{meets, request};
 ghost use Rattle.miss_handlers.specs.Waits.{AreWaits, wait_of};
 ghost use Rattle.miss_handlers.specs.Effects.{miss_of, states_after, waits_after, pool_after_miss};
 ghost use Rattle.miss_handlers.specs.Effects.{post_of, buffers};
@@ -71,7 +75,7 @@ impl Waits {
     {
         Ok(Waits {
             layout: layout.copy(alloc)?,
-            waits: Vec::with_capacity(alloc, 2)?,
+            waits: Vec::with_capacity(alloc, WAITS as usize)?,
         })
     }
 
@@ -143,7 +147,7 @@ impl Waits {
             counted: 0,
         };
         self.add(block, wait);
-        states.set(block, state_in_wait(state));
+        states.set(block, state.in_wait());
         Some(Post {
             to: self.layout.home(block),
             message: request(need, block, buf),
@@ -158,16 +162,6 @@ fn meets(need: Need, state: State) -> bool
     match need {
         Need::Read => state.can_read(),
         Need::Write => state.can_write(),
-    }
-}
-
-/// The state of a block that is waited for.
-fn state_in_wait(state: State) -> State
-    ensures { result ≡ state_in_wait state }
-{
-    match state {
-        State::Invalid => State::Pending,
-        state => state,
     }
 }
 

@@ -9,7 +9,7 @@ ghost use Rattle.llsc.specs.Reservation.{cleared};
 ghost use Rattle.home_directory.specs.state_table.States.{state_of};
 ghost use Rattle.home_directory.specs.flag_memory.Flag.{flags};
 ghost use Rattle.home_directory.specs.flag_memory.Copy.{bytes_of};
-ghost use Rattle.home_directory.specs.Table.{is_complete, is_shared, state_for, state_without};
+ghost use Rattle.home_directory.specs.Table.{is_complete, state_for, state_without};
 ghost use Rattle.home_directory.specs.Table.{bytes_by};
 ghost use Rattle.miss_handlers.specs.Waits.{wait_of, IsWaitFor, IsAnswerFor};
 ghost use Rattle.miss_handlers.specs.Search.{acks_in, bringing, takes_answer};
@@ -18,10 +18,10 @@ ghost use Rattle.miss_handlers.specs.Effects.{buffers};
 ghost use Rattle.miss_handlers.specs.Completion.{completion_of};
 
 use crate::search::{find, is_waited_for, takes_ack, takes_data, takes_grant};
-use crate::{Waiting, Waits};
+use crate::{BUFFER_BYTES, Waiting, Waits};
 use block_layout::Block;
 use buf_pool::{Buf, Pool};
-use home_directory::dsm_messages::{Message, Need, Post};
+use home_directory::dsm_messages::{Message, Need, Post, Sends, push_some};
 use home_directory::flag_memory::Copy32;
 use home_directory::state_table::{State, States};
 use home_directory::{Answer, Wait};
@@ -31,6 +31,38 @@ impl Waits {
     /// A message from a node: the row that the table has for it, or none, and what that sends. The
     /// messages to a home and the last of a node have no row here.
     pub fn on(
+        &mut self,
+        from: u8,
+        message: Message,
+        states: &mut States,
+        copy: &mut Copy32,
+        held: &mut Reservation,
+        pool: &mut Pool,
+    ) -> Sends
+        requires pool { pool.old.free + length self.old.waits ≤ pool.old.slots }
+        requires states { states.old.layout ≡ self.old.layout }
+        requires copy { copy.old.layout ≡ self.old.layout }
+        ensures effect { let old = node_blocks self.old states.old copy.old held.old in
+            let new = node_blocks self.new states.new copy.new held.new in
+            let effect = message_effect self.old.layout old from message in
+            HasEffect new result.items effect }
+        ensures pool { let old = node_blocks self.old states.old copy.old held.old in
+            let effect = message_effect self.old.layout old from message in
+            pool.new ≡ pool_after pool.old effect.gives_back }
+        ensures count { buffers pool.new self.new ≡ buffers pool.old self.old }
+        ensures layout { self.new.layout ≡ self.old.layout }
+        ensures states_layout { states.new.layout ≡ states.old.layout }
+        ensures program { states.new.program ≡ states.old.program }
+        ensures copy_layout { copy.new.layout ≡ copy.old.layout }
+    {
+        let mut sends = Sends::new();
+        let post = self.reply(from, message, states, copy, held, pool);
+        push_some(&mut sends, post);
+        sends
+    }
+
+    /// The same as `on`; it gives the one message that the row sends, where it sends one.
+    pub fn reply(
         &mut self,
         from: u8,
         message: Message,
@@ -79,7 +111,9 @@ impl Waits {
                 self.answer(from, block, answer, states, copy, held, pool)
             }
             Message::Ack { block } => self.ack(from, block, states, copy, held, pool),
-            _ => None,
+            Message::Read { .. } | Message::Write { .. } | Message::Done { .. } | Message::Bye => {
+                None
+            }
         }
     }
 
@@ -189,7 +223,7 @@ impl Waits {
     {
         if block < self.layout.blocks()
             && from == self.layout.home(block)
-            && states.state(block) == State::Shared
+            && states.state(block).is_shared()
             && requester < self.layout.nodes()
         {
             self.give_up(block, states, copy, held);
@@ -276,14 +310,14 @@ impl Waits {
         }
         match answer {
             Answer::ByData { buf, .. } => {
-                buf.room() >= 4096
+                buf.room() >= BUFFER_BYTES
                     && buf.bytes().len() == 64 * self.layout.lines(block) as usize
                     && takes_data(&self.waits, block)
             }
             Answer::ByGrant { buf, .. } => {
-                buf.room() >= 4096
+                buf.room() >= BUFFER_BYTES
                     && from == self.layout.home(block)
-                    && is_shared(states.state(block))
+                    && states.state(block).is_shared()
                     && takes_grant(&self.waits, block)
             }
         }
@@ -459,16 +493,6 @@ fn state_for(need: Need) -> State
     match need {
         Need::Read => State::Shared,
         Need::Write => State::Exclusive,
-    }
-}
-
-/// Whether a block is shared.
-fn is_shared(state: State) -> bool
-    ensures { result ≡ is_shared state }
-{
-    match state {
-        State::Shared => true,
-        State::Exclusive | State::Invalid | State::Pending => false,
     }
 }
 

@@ -8,6 +8,9 @@ use crate::Waiting;
 use block_layout::Block;
 use home_directory::dsm_messages::Need;
 
+/// How many Acks a wait counts at most: one of each node.
+const MOST_ACKS: u8 = 16;
+
 /// Whether there is a wait for a block.
 pub fn is_waited_for(waits: &[Waiting], block: Block) -> bool
     ensures { result ≡ is_some (wait_in waits.now block) }
@@ -38,7 +41,7 @@ pub fn takes_ack(waits: &[Waiting], block: Block) -> bool
 {
     for waiting in waits {
         if block == waiting.block {
-            return waiting.wait.need == Need::Write && waiting.wait.counted < 16;
+            return waiting.wait.need == Need::Write && waiting.wait.counted < MOST_ACKS;
         }
     }
     false

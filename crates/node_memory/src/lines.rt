@@ -1,4 +1,4 @@
-//! What the state byte of a line allows, and what is wanted of lines.
+//! What is wanted of lines, by their state bytes.
 
 ghost use Rattle.std.specs.Prelude.{◌≡◌, ◌++◌};
 ghost use Rattle.node_model.specs.Node as model;
@@ -6,7 +6,7 @@ ghost use Rattle.node_memory.specs.Shelf.{local_of, others_of, wants_in};
 
 use crate::memory::NodeMemory;
 use node_model::dsm_messages::Need;
-use node_model::state_table::{EXCLUSIVE, READ_ONLY, UNMAPPED};
+use node_model::state_table::{is_fixed, is_mapped, is_readable, is_writable};
 
 /// What a word wants: that the line of an address may be read, or written.
 #[derive(Clone, Copy, PartialEq, Eq)]
@@ -20,34 +20,6 @@ pub struct Want {
 pub struct Wants {
     pub first: Want,
     pub other: Option<Want>,
-}
-
-/// Whether a line with this state byte is mapped.
-pub fn is_mapped(state: u8) -> bool
-    ensures { result ≡ model.is_mapped_state state }
-{
-    state != UNMAPPED
-}
-
-/// Whether a line with this state byte may be read.
-pub fn is_readable(state: u8) -> bool
-    ensures { result ≡ model.is_readable_state state }
-{
-    state & 2 == 0
-}
-
-/// Whether a line with this state byte may not be written by anyone.
-pub fn is_fixed(state: u8) -> bool
-    ensures { result ≡ model.is_fixed_state state }
-{
-    state == READ_ONLY || state == UNMAPPED
-}
-
-/// Whether a line with this state byte may be written.
-pub fn is_writable(state: u8) -> bool
-    ensures { result ≡ model.is_writable_state state }
-{
-    state == EXCLUSIVE
 }
 
 /// Whether a line with this state byte meets a need.

@@ -29,7 +29,7 @@ use node_model::dsm_messages::{Message, Need, Post};
 use node_model::flag_memory::{Copy32, copy_law};
 use node_model::llsc::Reservation;
 use node_model::miss_handlers::Waits;
-use node_model::state_table::{EXCLUSIVE, READ_ONLY, State, States};
+use node_model::state_table::{EXCLUSIVE, READ_ONLY, State, States, is_readable, is_writable};
 use rv32_decode::Width;
 use std::marker::Model;
 use std::mem::swap;
@@ -294,7 +294,7 @@ impl<'a> NodeMemory<'a> {
             model.is_readable_state ((local_of self.now).state (address / 64)) ≡ true) }
     {
         let at = self.near(width, address)?;
-        if self.states.byte_at(address / 64, at / 64) & 2 == 0 {
+        if is_readable(self.states.byte_at(address / 64, at / 64)) {
             Some(self.copy.load_at(address, at, width))
         } else {
             None
@@ -339,7 +339,7 @@ impl<'a> NodeMemory<'a> {
         ensures ground { ground_of self.new ≡ ground_of self.old }
     {
         match self.near(width, address) {
-            Some(at) if self.states.byte_at(address / 64, at / 64) == 0 => {
+            Some(at) if is_writable(self.states.byte_at(address / 64, at / 64)) => {
                 self.copy.store_at(address, at, width, value);
                 true
             }
@@ -461,7 +461,7 @@ impl<'a> NodeMemory<'a> {
 
     /// A message that isn't for a home: the row that the table has for it, or none, and what that
     /// sends.
-    pub fn on(
+    pub fn reply(
         &mut self,
         from: u8,
         message: Message,
@@ -483,7 +483,7 @@ impl<'a> NodeMemory<'a> {
         ensures program { self.new.program ≡ self.old.program }
         ensures copy_layout { self.new.copy.layout ≡ self.old.copy.layout }
     {
-        waits.on(
+        waits.reply(
             from,
             message,
             &mut self.states,

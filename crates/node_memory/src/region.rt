@@ -5,7 +5,7 @@ ghost use Rattle.node_model.specs.Node as model;
 ghost use Rattle.node_memory.specs.Shelf.{region_by};
 
 /// Where an address of the node lies.
-#[derive(Clone, Copy, Debug, PartialEq, Eq)]
+#[derive(Clone, Copy, PartialEq, Eq)]
 pub enum Region {
     /// Below the state table.
     Memory,

@@ -12,6 +12,7 @@ use Rattle.jump_map.specs.rv32_ops.Operations.{amo}
 use Rattle.block_layout.specs.Layout.{Shape, is_shared, home, block_of}
 use Rattle.miss_handlers.specs.llsc.Reservation.{holds}
 use Rattle.miss_handlers.specs.state_table.declared.TheConstants.{EXCLUSIVE, INVALID, READ_ONLY, UNMAPPED}
+pub use Rattle.miss_handlers.specs.state_table.StateByte.{is_mapped_state, is_readable_state, is_fixed_state, is_writable_state}
 use Rattle.miss_handlers.specs.flag_memory.Flag.{flag_byte}
 use Rattle.miss_handlers.specs.dsm_messages.declared.messages.Need.{Need}
 use Rattle.miss_handlers.specs.dsm_messages.declared.messages.Need.TheVariants.{Read, Write}
@@ -76,28 +77,12 @@ first_state ReadOnly at_home = READ_ONLY
 first_state Private at_home = EXCLUSIVE
 first_state Unmapped at_home = UNMAPPED
 
--- the state byte says that the line is mapped
-abbrev pub is_mapped_state : ℕ → Bool
-is_mapped_state state = not (state == 7)
-
--- that it may be read: the second bit is clear
-abbrev pub is_readable_state : ℕ → Bool
-is_readable_state state = bit_and state 2 == 0
-
--- that it may not be written by anyone
-abbrev pub is_fixed_state : ℕ → Bool
-is_fixed_state state = (state == 5) || (state == 7)
-
--- that it may be written
-abbrev pub is_writable_state : ℕ → Bool
-is_writable_state state = state == 0
-
 -- what is wanted: that the line of an address may be read, or written
 pub record Want : Type 0 where
   pub at : ℕ
   pub need : Need
 
--- where a processor goes on once nothing that its word wanted is on its way: behind the word; at
+-- where a processor goes on once nothing that its word wanted is on its way: after the word; at
 -- the word again; or by what the lines of two addresses allow then
 pub data Resume : Type 0 where
   PastWord : Resume

@@ -112,7 +112,7 @@ abbrev pub wants_of : Move → List Want
 wants_of (Waits resume want more) = want ∷ more
 wants_of move = []
 
--- 3. The end: a Bye goes to every node, ascending, behind all other messages of that event
+-- 3. The end: a Bye goes to every node, ascending, after all other messages of that event
 
 abbrev pub byes_to : ℕ → List Post
 byes_to zero = []

@@ -1,6 +1,10 @@
 #![tactic(auto)]
 //! What a node that runs rewritten code is, what it does in an event, and what a core of such nodes
 //! is. There is no code here but what is seen of a node: types, and what a standing allows.
+//!
+//! It hands on what a node's words are, [`rv32_step`], [`micro_op`], [`runtime_words`],
+//! [`templates`] and [`jump_map`], and its protocol: [`miss_handlers`], [`home_directory`],
+//! [`state_table`], [`flag_memory`], [`dsm_messages`] and [`llsc`].
 
 ghost use Rattle.std.specs.Prelude.{◌≡◌, ◌↔◌, true};
 ghost use Rattle.node_model.specs.Core as model;
@@ -11,7 +15,7 @@ pub use miss_handlers;
 pub use miss_handlers::{dsm_messages, flag_memory, home_directory, llsc, state_table};
 
 /// What a node may do next.
-#[derive(Clone, Copy, Debug, PartialEq, Eq)]
+#[derive(Clone, Copy, PartialEq, Eq)]
 pub enum Standing {
     /// It may execute a word.
     Running,
@@ -58,7 +62,7 @@ impl Standing {
 }
 
 /// A message that a node took, in its journal.
-#[derive(Clone, Copy, Debug, PartialEq, Eq)]
+#[derive(Clone, Copy, PartialEq, Eq)]
 pub struct Entry {
     /// The stamp of the event.
     pub stamp: u64,
@@ -69,7 +73,7 @@ pub struct Entry {
 }
 
 /// A byte that a node printed.
-#[derive(Clone, Copy, Debug, PartialEq, Eq)]
+#[derive(Clone, Copy, PartialEq, Eq)]
 pub struct OutByte {
     /// The stamp of the event that printed it.
     pub stamp: u64,
@@ -78,7 +82,7 @@ pub struct OutByte {
 }
 
 /// What a node counts over its events.
-#[derive(Clone, Copy, Debug, PartialEq, Eq)]
+#[derive(Clone, Copy, PartialEq, Eq)]
 pub struct NodeCounts {
     /// Read messages sent.
     pub read: u64,

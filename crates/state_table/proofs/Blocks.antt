@@ -96,6 +96,14 @@ shared_place s line place l h shared is = go (some_at (block_of s.layout line) (
           byte = rw (at, e) byte;
         }
 
+-- the first byte of a block is that of a state
+pub known_byte : (s : Shape) (ys : List ℕ) (b byte : ℕ) → Laws s → AreStates s ys → b < blocks s → byte ≡ get_or ys (start s b) 0 → byte ≡ byte_of (state_with byte)
+known_byte s ys b byte l h below is =
+    let t : ltb b (blocks s) ≡ true = grind (arith, nat_tests) in
+    let no_more : start s b + 0 ≡ start s b = omega arith in
+    let uniform : get_or ys (start s b) 0 ≡ byte_of (state_with (get_or ys (start s b) 0)) = rw (no_more, t) at (h.uniform b 0 below (l.some b below)) in
+    subst (λ (x : ℕ). x ≡ byte_of (state_with x)) (sym is) uniform
+
 -- a filled block
 filled_same : (s : Shape) (old new : List ℕ) (b : ℕ) (state : State) → Laws s → b < blocks s → IsFilled old new (start s b) (start s b + lines s b) (byte_of state) → state_in s new b ≡ state
 filled_same s old new b state l below f =

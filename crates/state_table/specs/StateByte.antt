@@ -1,6 +1,6 @@
 -- State bytes (Shasta, section 3.1: the state table has an entry for each line).
-use Rattle.std.specs.Prelude.{ℕ, ◌/◌, ◌%◌, Bool, true, false, ◌==◌, if◌then◌else◌}
-use Rattle.state_table.specs.declared.TheConstants.{EXCLUSIVE, SHARED, INVALID, PENDING}
+use Rattle.std.specs.Prelude.{ℕ, Bool, true, false, not, ◌||◌, ◌==◌, bit_and, if◌then◌else◌}
+use Rattle.state_table.specs.declared.TheConstants.{EXCLUSIVE, SHARED, INVALID, READ_ONLY, UNMAPPED, PENDING}
 use Rattle.state_table.specs.declared.State.{State}
 use Rattle.state_table.specs.declared.State.TheVariants.{Exclusive, Shared, Invalid, Pending}
 
@@ -31,10 +31,32 @@ can_write Shared = false
 can_write Invalid = false
 can_write Pending = false
 
--- a line with this byte may be read: bit 1 is clear
-abbrev pub is_readable : ℕ → Bool
-is_readable byte = byte / 2 % 2 == 0
+abbrev pub is_shared : State → Bool
+is_shared Exclusive = false
+is_shared Shared = true
+is_shared Invalid = false
+is_shared Pending = false
 
--- it may be written: no bit is set
-abbrev pub is_writable : ℕ → Bool
-is_writable byte = byte == 0
+-- the state of a block that the node begins to wait for: an invalid one becomes pending, and a
+-- shared one stays so
+abbrev pub state_in_wait : State → State
+state_in_wait Exclusive = Exclusive
+state_in_wait Shared = Shared
+state_in_wait Invalid = Pending
+state_in_wait Pending = Pending
+
+-- the state byte says that the line is mapped
+abbrev pub is_mapped_state : ℕ → Bool
+is_mapped_state state = not (state == UNMAPPED)
+
+-- that it may be read: the second bit is clear
+abbrev pub is_readable_state : ℕ → Bool
+is_readable_state state = bit_and state 2 == 0
+
+-- that it may not be written by anyone
+abbrev pub is_fixed_state : ℕ → Bool
+is_fixed_state state = (state == READ_ONLY) || (state == UNMAPPED)
+
+-- that it may be written
+abbrev pub is_writable_state : ℕ → Bool
+is_writable_state state = state == EXCLUSIVE

@@ -2,17 +2,20 @@
 //! The state of each line at a node, as the checks of rewritten code read it.
 //!
 //! A shared line has the state of its block. The byte of a line is found by its place among the
-//! shared lines; the other lines of the program have a byte that never changes.
+//! shared lines; the other lines of the program have a byte that never changes. What a byte allows
+//! is told by [`is_readable`], [`is_writable`], [`is_fixed`] and [`is_mapped`].
 
 ghost use Rattle.std.specs.Prelude.{◌≡◌};
 ghost use Rattle.state_table.specs.declared.State.{State as AnyState};
-ghost use Rattle.state_table.specs.StateByte.{byte_of, can_read, can_write, is_readable};
-ghost use Rattle.state_table.specs.StateByte.{is_writable};
+ghost use Rattle.state_table.specs.StateByte.{byte_of, can_read, can_write, is_shared};
+ghost use Rattle.state_table.specs.StateByte.{is_readable_state, is_writable_state, state_in_wait};
 
 mod classes;
+mod state_byte;
 mod states;
 
 pub use classes::{LineClass, LineClasses};
+pub use state_byte::{is_fixed, is_mapped, is_readable, is_writable};
 pub use states::States;
 
 /// The byte of a line that the node may read and write: an exclusive or a private one.
@@ -70,11 +73,28 @@ impl State {
     {
         self == State::Exclusive
     }
+
+    /// Whether the node shares a block in this state: it may read it, and not write it.
+    pub fn is_shared(self) -> bool
+        ensures { result ≡ is_shared self }
+    {
+        self == State::Shared
+    }
+
+    /// The state of a block in this state once the node waits for it.
+    pub fn in_wait(self) -> State
+        ensures { result ≡ state_in_wait self }
+    {
+        match self {
+            State::Invalid => State::Pending,
+            State::Exclusive | State::Shared | State::Pending => self,
+        }
+    }
 }
 
 /// What the checks of rewritten code read off a byte. A caller uses the clauses; the call does
 /// nothing.
 pub fn state_byte_law()
-    ensures readable { (s : AnyState) → is_readable (byte_of s) ≡ can_read s }
-    ensures writable { (s : AnyState) → is_writable (byte_of s) ≡ can_write s }
+    ensures readable { (s : AnyState) → is_readable_state (byte_of s) ≡ can_read s }
+    ensures writable { (s : AnyState) → is_writable_state (byte_of s) ≡ can_write s }
 {}

@@ -4,7 +4,7 @@ ghost use Rattle.std.specs.Prelude.{◌≡◌, ◌/◌, ◌<◌, ◌≤◌, ℕ,
 ghost use Rattle.block_layout.specs.Layout.{blocks, place_of};
 ghost use Rattle.block_layout.specs.Update.{changed};
 ghost use Rattle.state_table.specs.States.{state_of, line_byte};
-ghost use Rattle.state_table.specs.StateByte.{state_with};
+ghost use Rattle.state_table.specs.StateByte.{byte_of, state_with};
 ghost use Rattle.state_table.specs.Fill.{IsFilled};
 
 use crate::classes::LineClasses;
@@ -100,15 +100,18 @@ impl States {
     }
 }
 
-/// The state with a byte.
+/// The state whose byte this is. A read-only line and one that isn't mapped are in no block, so that
+/// theirs is none of these.
 fn state_of_byte(byte: u8) -> State
+    requires state { byte ≡ byte_of (state_with byte) }
     ensures { result ≡ state_with byte }
 {
     match byte {
         EXCLUSIVE => State::Exclusive,
         SHARED => State::Shared,
+        INVALID => State::Invalid,
         PENDING => State::Pending,
-        _ => State::Invalid,
+        _ => unreachable!(),
     }
 }
 

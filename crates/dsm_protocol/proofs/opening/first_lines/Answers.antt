@@ -1,9 +1,6 @@
 -- The lines of a node at the start.
 use Rattle.std.proofs.Common.{ap, ◌∙◌, cond, eqb}
-use Rattle.block_layout.specs.Layout.{home}
-use Rattle.state_table.specs.declared.State.TheVariants.{Exclusive}
-use Rattle.home_directory.specs.flag_memory.Flag.{flags}
-use Rattle.dsm_protocol.specs.Sound.{size}
+use Rattle.dsm_protocol.proofs.Names.{home, Exclusive, flags, size}
 use Rattle.dsm_protocol.proofs.opening.first_lines.Goals as goal
 
 pub returns : goal.returns
@@ -13,6 +10,5 @@ returns c = let l = c.args.layout.now in record {
   state = λ b bb. c.open_blocks.ensures.state b bb ∙ ap (λ z. cond (eqb (home l b) c.args.me) Exclusive z)
       (c.in_ok-states.ensures.states b);
   bytes = λ b bb. c.open_blocks.ensures.bytes b bb ∙ ap
-      (λ z. cond (eqb (home l b) c.args.me) z (flags (size l b)))
-      (c.in_ok-copy.ensures.bytes b bb);
+      (λ z. cond (eqb (home l b) c.args.me) z (flags (size l b))) (c.in_ok-copy.ensures.bytes b bb);
 }

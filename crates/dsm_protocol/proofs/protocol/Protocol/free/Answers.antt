@@ -1,9 +1,7 @@
 -- The two buffers of a node are in its pool or belong to its waits.
 use Rattle.std.proofs.Common.{◌≡◌, ◌+◌, ◌<◌, length, sym, ap, ◌∙◌, subst, arith}
 use Rattle.std.proofs.lemmas.List.{get_or_default}
-use Rattle.dsm_protocol.specs.declared.nodes.BareNode.{BareNode}
-use Rattle.dsm_protocol.specs.Nodes.{Nodes, no_node, node_at, world_of}
-use Rattle.dsm_protocol.specs.Events.{pending}
+use Rattle.dsm_protocol.proofs.Names.{BareNode, Nodes, no_node, node_at, world_of, pending}
 use Rattle.dsm_protocol.proofs.Counting.{pending_count}
 use Rattle.dsm_protocol.proofs.protocol.Protocol.free.Goals as goal
 

@@ -6,8 +6,8 @@ use Rattle.node_memory.specs.Shelf.{Shelf, HasLines, IsPlace}
 use Rattle.node_memory.proofs.ShelfLemmas.{shared_class, low_address, raw_of_copy, place_of_address}
 use Rattle.node_memory.proofs.memory.NodeMemory.load_readable.Goals as goal
 
-pub returns-then-byte_at-eq0-clause-value : goal.returns-then-byte_at-eq0-clause-value
-returns-then-byte_at-eq0-clause-value c =
+pub returns-then-is_readable-clause-value : goal.returns-then-is_readable-clause-value
+returns-then-is_readable-clause-value c =
     let s = c.args.self.now in
     let a = c.args.address in
     let lines = subst (λ (v : Shelf). HasLines v.program v.states v.copy) c.self.view_is c.self.invariant.0 in
