@@ -64,7 +64,7 @@ impl Model for TakeEnd {
 #[derive(Drop)]
 pub struct Full(pub Wire);
 
-/// A new link, whose ring holds so many wires: the two ends of it.
+/// A new link, whose ring holds `capacity` wires: its two ends.
 pub fn link(alloc: Global, capacity: usize) -> Result<(SendEnd, TakeEnd), AllocError>
     requires room { (1 ≤ capacity) × (capacity ≤ 4096) }
     ensures one { IfOk result (λ e. e.0.link ≡ e.1.link) }
@@ -86,7 +86,7 @@ pub fn link(alloc: Global, capacity: usize) -> Result<(SendEnd, TakeEnd), AllocE
 }
 
 impl SendEnd {
-    /// Puts the wire behind all that was sent, or hands it back, which the ring does where it held
+    /// Puts the wire after all that was sent, or hands it back, which the ring does where it held
     /// its capacity at a moment of the call.
     pub fn push<R: Wait>(&mut self, rt: &R, wire: Wire) -> Result<(), Full>
         ensures link { self.new.link ≡ self.old.link }

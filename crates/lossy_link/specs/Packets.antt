@@ -5,7 +5,7 @@ use Rattle.lossy_link.specs.Receiver.{Receiving, IsWanted}
 use Rattle.lossy_link.specs.declared.packet.Packet.{Packet}
 
 module _ {A : Type 0} where
-  -- the packet of the item behind k others, within the window, with its number
+  -- the packet of the item after k others, within the window, with its number
   pub record Makes (s : Sending A) (k : ℕ) (packet : Packet A) : Type 0 where
     pub within : k < s.window
     pub item : slice_get s.items k ≡ Some packet.item

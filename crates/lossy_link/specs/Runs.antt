@@ -5,7 +5,7 @@ use Rattle.lossy_link.specs.Receiver.{Receiving, Delivers, new_receiver}
 use Rattle.lossy_link.specs.Packets.{Makes, Receives}
 use Rattle.lossy_link.specs.declared.packet.Packet.{Packet}
 
--- What happens on a link: an item is offered; the packet of the item behind k others that aren't
+-- What happens on a link: an item is offered; the packet of the item after k others that aren't
 -- acknowledged is made; a packet is received; an item is delivered; a number comes to the sender
 -- as an acknowledgement.
 pub data Event (A : Type 0) : Type 0 where

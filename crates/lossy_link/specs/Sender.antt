@@ -20,11 +20,11 @@ module _ {A : Type 0} where
   abbrev pub number_offered : Sending A → ℕ
   number_offered s = s.acknowledged + length s.items
 
-  -- of the items that aren't acknowledged there is one behind k others, within the window
+  -- of the items that aren't acknowledged there is one after k others, within the window
   abbrev pub IsInWindow : Sending A → ℕ → Type 0
   IsInWindow s k = (k < s.window) × (k < length s.items)
 
-  -- the item stands behind the others
+  -- the item stands after the others
   abbrev pub Offers : Sending A → A → Sending A → Type 0
   Offers s item after = after ≡ record s { items = s.items ++ item ∷ [] }
 

@@ -61,8 +61,8 @@ impl<T> Sender<T> {
         }
     }
 
-    /// A packet of the item that so many items which aren't acknowledged stand before, if it is
-    /// within the window.
+    /// A packet of the item with `k` items before it that aren't acknowledged, if it is within the
+    /// window.
     pub fn packet(&self, k: u8) -> Result<Option<Packet<T>>, AllocError>
     where
         T: Piece,
@@ -85,7 +85,7 @@ impl<T> Sender<T> {
 }
 
 impl<T: Drop> Sender<T> {
-    /// Puts the item behind the others.
+    /// Puts the item after the others.
     pub fn offer(&mut self, item: T) -> Result<(), AllocError>
         requires { number_offered self.old < 2 ^ 63 }
         ensures offers { OnOk result (Offers self.old item self.new) }
