@@ -1,5 +1,7 @@
 #![tactic(auto)]
 //! The program of an executable: the class of each line, the bytes that it starts with, its code.
+//!
+//! It hands on [`byte_range`], which holds what the program begins with.
 
 ghost use Rattle.std.specs.Prelude.{◌≡◌, ◌+◌, ◌^◌, ◌<◌, ◌≤◌, ◌++◌, ℕ, false, length};
 ghost use Rattle.std.specs.Prelude.{slice_index, map, take, IfOk, OnErr, OnOk, IsErrOf, IfSome};
@@ -30,14 +32,14 @@ use std::alloc::{AllocError, Global};
 use std::marker::Model;
 use stretches::NumberRange;
 
-/// The first line of the window of which each processor has its own.
+/// The first line of the window; each processor has its own bytes there.
 pub const PRIVATE_FIRST: u32 = 0x1ff_fc00;
 
 /// The line after that window's last.
 const PRIVATE_END: u32 = 0x200_0000;
 
 /// An accepted program. Contracts see the fields of its executable.
-#[derive(Debug, Drop)]
+#[derive(Drop)]
 pub struct Program<'a> {
     elf: &'a Elf<'a>,
     /// The segments that have memory, ascending.
@@ -135,7 +137,7 @@ impl<'a> Program<'a> {
         segments::load(&self.segments, width, address)
     }
 
-    /// Appends the bytes that so many addresses from one on start with. Where memory is wanted,
+    /// Appends the bytes that `count` addresses from one on start with. Where memory is wanted,
     /// nothing is appended.
     pub fn bytes0(&self, address: u32, count: usize, out: &mut Vec<u8>) -> Result<(), AllocError>
         requires { address + count ≤ 2 ^ 32 }
@@ -203,7 +205,7 @@ impl<'a> Program<'a> {
     }
 }
 
-/// What `bytes0` appends, by place: so many bytes, each of its address.
+/// What `bytes0` appends, by place: a byte of each address.
 pub fn first_bytes_law()
     ensures len { (e : Fields) (a n : ℕ) → length (model.first_bytes e a n) ≡ n }
     ensures each { (e : Fields) (a n k : ℕ) → k < n

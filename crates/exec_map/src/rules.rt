@@ -125,7 +125,7 @@ pub fn broken_by_code(
     None
 }
 
-/// The class of which there are too many lines.
+/// The class that has too many lines.
 fn class_of_too_much(all: &[Segment<'_>]) -> Option<Class>
     ensures some { IfSome result (model.IsTooMuch (map segment_of all.now)) }
     ensures none { IfNone result ((class : Class) →

@@ -9,7 +9,7 @@ ghost use Rattle.exec_map.specs.Index.{AreNumberRanges, IsSome, IsOfWords, have}
 use std::alloc::{AllocError, Global};
 
 /// The numbers from a first one to before an end.
-#[derive(Clone, Copy, Debug)]
+#[derive(Clone, Copy)]
 pub struct NumberRange {
     pub first: u32,
     pub end: u32,

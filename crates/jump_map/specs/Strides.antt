@@ -11,7 +11,7 @@ use Rattle.jump_map.specs.declared.strides.StrideKind.TheVariants as stride
 abbrev pub op_of : MicroKind → (rd rs1 rs2 imm : ℕ) → MicroOp
 op_of k rd rs1 rs2 imm = record { kind = k; rd = rd; rs1 = rs1; rs2 = rs2; imm = imm }
 
--- what a stride of one word says of its micro-op, and one that goes on behind an operation says of
+-- what a stride of one word says of its micro-op, and one that goes on after an operation says of
 -- that; one of a whole sequence says nothing
 abbrev pub IsPlain : StrideKind → MicroOp → Type 0
 IsPlain stride.Nothing m = m.kind ≡ kind.Nothing
@@ -94,7 +94,7 @@ IsPlain stride.AddThenPollOverLtu m = m.kind ≡ kind.Add
 IsPlain stride.AddThenPollOverGeu m = m.kind ≡ kind.Add
 IsPlain k m = Unit {0}
 
--- what a stride of one word leads to is one of so many words: the one behind its own, and the one
+-- what a stride of one word leads to is one of so many words: the one after its own, and the one
 -- that it jumps to. Of a slow one and of an indirect jump nothing is said
 abbrev pub IsInside : StrideKind → MicroOp → (k words : ℕ) → Type 0
 IsInside stride.Slow m k words = Unit {0}
@@ -137,7 +137,7 @@ pub record IsEntry (micros : List MicroOp) (k : ℕ) : Type 0 where
   pub there : StandsAt micros k entry
   pub is : entry.kind ≡ kind.EnterBy
 
--- a branch past the jump behind it, to another word
+-- a branch past the jump after it, to another word
 pub record IsOver (micros : List MicroOp) (k : ℕ) (c : MicroKind) : Type 0 where
   pub branch : MicroOp
   pub there : StandsAt micros k branch
@@ -146,7 +146,7 @@ pub record IsOver (micros : List MicroOp) (k : ℕ) (c : MicroKind) : Type 0 whe
   pub next : k + 2 < length micros
   pub jump : IsJump micros (k + 1)
 
--- the two words that put a number into a register, with another one behind them
+-- the two words that put a number into a register, with another one after them
 pub record IsNumber (micros : List MicroOp) (k : ℕ) : Type 0 where
   pub upper : MicroOp
   pub lower : MicroOp
@@ -309,7 +309,7 @@ pub record IsHead (micros : List MicroOp) (k spilled : ℕ) : Type 0 where
   pub high : ℕ
   pub looks : LooksTwice micros k spilled x u high
 
--- the head of a batch that only loads, and the reloads behind it
+-- the head of a batch that only loads, and the reloads after it
 pub record IsReadHead (micros : List MicroOp) (k spilled : ℕ) : Type 0 where
   pub head : IsHead micros k spilled
   pub test : StandFrom micros (k + spilled + 10)
@@ -324,19 +324,19 @@ pub record IsWriteHead (micros : List MicroOp) (k spilled : ℕ) : Type 0 where
   pub take : TakeBack micros (k + spilled + 15) spilled (head.x.s ∷ head.x.t ∷ head.u ∷ [])
   pub next : k + spilled + 15 + spilled < length micros
 
--- a word of a kind, with another one behind it
+-- a word of a kind, with another one after it
 pub record IsWord (micros : List MicroOp) (k : ℕ) (is : MicroKind) : Type 0 where
   pub micro : MicroOp
   pub there : StandsAt micros k micro
   pub kind_is : micro.kind ≡ is
   pub next : k + 1 < length micros
 
--- a poll, and behind it a branch past a jump
+-- a poll, and after it a branch past a jump
 abbrev pub IsPollOver : List MicroOp → ℕ → MicroKind → Type 0
 IsPollOver micros k c = IsPolled micros k × IsOver micros (k + 1) c
 
--- what a stride of a whole sequence says of the words from its own on, and one that goes on behind
--- an operation says of those behind it; one of a word says nothing
+-- what a stride of a whole sequence says of the words from its own on, and one that goes on after
+-- an operation says of those after it; one of a word says nothing
 abbrev pub IsWhole : StrideKind → List MicroOp → ℕ → Type 0
 IsWhole stride.OverEq micros k = IsOver micros k kind.BranchEq
 IsWhole stride.OverNe micros k = IsOver micros k kind.BranchNe

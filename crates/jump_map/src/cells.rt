@@ -14,7 +14,7 @@ use std::marker::Model;
 use templates::Place;
 
 /// A word, what it reads as, and its place.
-#[derive(Clone, Copy, Debug)]
+#[derive(Clone, Copy)]
 struct StoredCell {
     word: u32,
     what: Option<RtWord>,
@@ -46,7 +46,7 @@ impl Model for Cells {
 }
 
 impl Cells {
-    /// No word as yet, and room for so many.
+    /// No word as yet, and room for `words` words.
     pub(crate) fn with_capacity(alloc: Global, words: u32) -> Result<Cells, AllocError>
         ensures value { IfOk result (λ cells. cells ≡ []) }
     {

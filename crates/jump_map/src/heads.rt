@@ -11,7 +11,7 @@ use std::marker::Model;
 
 /// Where the words of a place begin: the number of the first, at its head, and that of the first of
 /// its single sequence.
-#[derive(Clone, Copy, Debug)]
+#[derive(Clone, Copy)]
 pub(crate) struct PlaceStart {
     address: u32,
     head: u32,
@@ -38,7 +38,7 @@ impl Model for PlaceIndex {
 }
 
 impl PlaceIndex {
-    /// No place as yet, and room for so many.
+    /// No place as yet, and room for `places` places.
     pub(crate) fn with_capacity(alloc: Global, places: usize) -> Result<PlaceIndex, AllocError>
         ensures value { IfOk result (λ index. index ≡ []) }
     {
@@ -140,7 +140,7 @@ impl Model for Heads {
 }
 
 impl Heads {
-    /// The places of a plan of so many words.
+    /// The places of a plan of `total` words.
     pub(crate) fn new(index: PlaceIndex, total: u32) -> Heads
         requires few { total ≤ most_words }
         ensures value { result ≡ record { starts = index; total = total } }

@@ -53,7 +53,7 @@ impl From<AllocError> for ImageRefused {
 
 /// What a word of an image is, None where it is no word of rewritten code; and its place. Word 0
 /// has no place.
-#[derive(Clone, Copy, Debug, PartialEq, Eq)]
+#[derive(Clone, Copy, PartialEq, Eq)]
 pub struct ImageWord {
     pub what: Option<RtWord>,
     pub place: Option<Place>,

@@ -1,5 +1,8 @@
 #![tactic(auto)]
 //! Rewritten code, and the maps between original and rewritten addresses.
+//!
+//! It hands on what its words are: [`rv32_step`], [`micro_op`], [`runtime_words`] and
+//! [`templates`].
 
 mod building;
 mod cells;

@@ -53,7 +53,7 @@ fn stride_at(micros: &[MicroOp], k: usize) -> StrideKind
     }
 }
 
-/// The stride of the word of a number, without the one behind it.
+/// The stride of the word of a number, without the one after it.
 fn alone_at(micros: &[MicroOp], k: usize) -> StrideKind
     requires few { length micros.now ≤ most_words }
     requires here { k < length micros.now }
@@ -80,7 +80,7 @@ fn kind_at(micros: &[MicroOp], k: usize, op: &MicroOp) -> StrideKind
     }
 }
 
-/// Whether what a stride of one word leads to is one of so many words.
+/// Whether what a stride of one word leads to is one of the first `words` words.
 fn is_inside(kind: StrideKind, op: &MicroOp, k: usize, words: usize) -> bool
     requires { k < words }
     ensures { result ≡ true → IsInside kind op.now k words }
@@ -100,7 +100,7 @@ fn is_inside(kind: StrideKind, op: &MicroOp, k: usize, words: usize) -> bool
     }
 }
 
-/// A sum with a number, and what stands behind it, where both are executed at once.
+/// A sum with a number, and what stands after it, where both are executed at once.
 fn add_imm_then(second: StrideKind) -> StrideKind
     ensures { (micros : List MicroOp) (k : ℕ) → IsStride micros k StrideKind.AddImm
         → IsStride micros (k + 1) second → IsStride micros k result }
@@ -124,7 +124,7 @@ fn add_imm_then(second: StrideKind) -> StrideKind
     }
 }
 
-/// A sum of two registers, and what stands behind it, where both are executed at once.
+/// A sum of two registers, and what stands after it, where both are executed at once.
 fn add_then(second: StrideKind) -> StrideKind
     ensures { (micros : List MicroOp) (k : ℕ) → IsStride micros k StrideKind.Add
         → IsStride micros (k + 1) second → IsStride micros k result }
@@ -148,7 +148,7 @@ fn add_then(second: StrideKind) -> StrideKind
     }
 }
 
-/// A shift to the left by a number, and what stands behind it, where both are executed at once.
+/// A shift to the left by a number, and what stands after it, where both are executed at once.
 fn sll_imm_then(second: StrideKind) -> StrideKind
     ensures { (micros : List MicroOp) (k : ℕ) → IsStride micros k StrideKind.SllImm
         → IsStride micros (k + 1) second → IsStride micros k result }
@@ -160,7 +160,7 @@ fn sll_imm_then(second: StrideKind) -> StrideKind
     }
 }
 
-/// A product, and what stands behind it, where both are executed at once.
+/// A product, and what stands after it, where both are executed at once.
 fn mul_then(second: StrideKind) -> StrideKind
     ensures { (micros : List MicroOp) (k : ℕ) → IsStride micros k StrideKind.Mul
         → IsStride micros (k + 1) second → IsStride micros k result }
@@ -209,7 +209,7 @@ fn polled_at(micros: &[MicroOp], k: usize) -> Option<StrideKind>
     }
 }
 
-/// A branch past the jump behind it, to another word.
+/// A branch past the jump after it, to another word.
 fn over_at(micros: &[MicroOp], k: usize) -> Option<Cond>
     requires few { k ≤ most_words }
     ensures { IfSome result (λ c. IsOver micros.now k (branch_kind c)) }
@@ -229,7 +229,7 @@ fn over_at(micros: &[MicroOp], k: usize) -> Option<Cond>
     }
 }
 
-/// The kind of a branch past the jump behind it.
+/// The kind of a branch past the jump after it.
 fn over(c: Cond) -> StrideKind
     ensures { (micros : List MicroOp) (k : ℕ) → IsOver micros k (branch_kind c)
         → Begins micros k result }
@@ -244,7 +244,7 @@ fn over(c: Cond) -> StrideKind
     }
 }
 
-/// The branch past a jump and that jump, behind a poll.
+/// The branch past a jump and that jump, after a poll.
 fn poll_over(c: Cond) -> StrideKind
     ensures { (micros : List MicroOp) (k : ℕ) → IsPolled micros k
         → IsOver micros (k + 1) (branch_kind c) → Begins micros k result }
@@ -295,7 +295,7 @@ fn number_at(micros: &[MicroOp], k: usize) -> Option<StrideKind>
     }
 }
 
-/// Whether two words put a number into a register, with another one behind them.
+/// Whether two words put a number into a register, with another one after them.
 fn is_number(micros: &[MicroOp], k: usize) -> bool
     requires few { k < most_words }
     ensures { result ≡ true → IsNumber micros.now k }
@@ -324,7 +324,7 @@ fn spilled_at(micros: &[MicroOp], k: usize) -> Option<StrideKind>
     head_at(micros, k, 3)
 }
 
-/// A check with so many scratch registers spilled.
+/// A check with `spilled` scratch registers spilled.
 fn check_at(micros: &[MicroOp], k: usize, spilled: usize) -> Option<StrideKind>
     requires few { k < most_words }
     requires spilled { spilled ≤ 3 }
@@ -342,7 +342,7 @@ fn check_at(micros: &[MicroOp], k: usize, spilled: usize) -> Option<StrideKind>
     write_at(micros, k, spilled)
 }
 
-/// A load whose line's state is tested, with so many registers spilled.
+/// A load whose line's state is tested, with `spilled` registers spilled.
 fn read_at(micros: &[MicroOp], k: usize, spilled: usize) -> Option<StrideKind>
     requires few { k < most_words }
     requires spilled { spilled ≤ 3 }
@@ -366,7 +366,7 @@ fn read_at(micros: &[MicroOp], k: usize, spilled: usize) -> Option<StrideKind>
     }
 }
 
-/// The kind of a load with so many registers spilled.
+/// The kind of a load with `spilled` registers spilled.
 fn read(kind: MicroKind, spilled: usize) -> Option<StrideKind>
     ensures { (micros : List MicroOp) (k : ℕ) → IsRead micros k spilled kind
         → IfSome result (Begins micros k) }
@@ -391,7 +391,7 @@ fn read(kind: MicroKind, spilled: usize) -> Option<StrideKind>
     }
 }
 
-/// A store whose line's state is tested, with so many registers spilled.
+/// A store whose line's state is tested, with `spilled` registers spilled.
 fn write_at(micros: &[MicroOp], k: usize, spilled: usize) -> Option<StrideKind>
     requires few { k < most_words }
     requires spilled { spilled ≤ 3 }
@@ -415,7 +415,7 @@ fn write_at(micros: &[MicroOp], k: usize, spilled: usize) -> Option<StrideKind>
     }
 }
 
-/// The kind of a store with so many registers spilled.
+/// The kind of a store with `spilled` registers spilled.
 fn write(kind: MicroKind, spilled: usize) -> Option<StrideKind>
     ensures { (micros : List MicroOp) (k : ℕ) → IsWrite micros k spilled kind
         → IfSome result (Begins micros k) }
@@ -450,7 +450,7 @@ fn is_neither(r: Reg, s: Reg, t: Reg) -> bool
     r != s && r != t
 }
 
-/// A load that looks at its value, with so many registers spilled.
+/// A load that looks at its value, with `spilled` registers spilled.
 fn flag_at(micros: &[MicroOp], k: usize, spilled: usize) -> Option<StrideKind>
     requires few { k < most_words }
     requires spilled { spilled ≤ 3 }
@@ -470,7 +470,7 @@ fn flag_at(micros: &[MicroOp], k: usize, spilled: usize) -> Option<StrideKind>
     }
 }
 
-/// Whether words from that of a number on load a value into v, and go on past the check behind them
+/// Whether words from that of a number on load a value into v, and go on past the check after them
 /// where it isn't the flag word. The first is this one.
 fn reads_value(micros: &[MicroOp], k: usize, v: Reg, look: &MicroOp) -> bool
     requires few { k < 2 ^ 32 - 7 }
@@ -503,7 +503,7 @@ fn flag(spilled: usize) -> Option<StrideKind>
     }
 }
 
-/// The head of a batch with so many registers spilled, and the reloads behind it.
+/// The head of a batch with `spilled` registers spilled, and the reloads after it.
 fn head_at(micros: &[MicroOp], k: usize, spilled: usize) -> Option<StrideKind>
     requires few { k < most_words }
     requires spilled { spilled ≤ 3 }
@@ -531,7 +531,7 @@ fn head_at(micros: &[MicroOp], k: usize, spilled: usize) -> Option<StrideKind>
     None
 }
 
-/// Whether the words behind so many spills look at both lines of a batch.
+/// Whether the words after `spilled` spills look at both lines of a batch.
 fn looks_twice(
     micros: &[MicroOp],
     k: usize,
@@ -591,7 +591,7 @@ fn write_head(spilled: usize) -> Option<StrideKind>
     }
 }
 
-/// Whether words from that of a number on keep the last so many of these registers, each in the
+/// Whether the words from number `k` on keep the last `spilled` of these registers, each in the
 /// spill word of its number.
 fn keeps(micros: &[MicroOp], k: usize, registers: &[Reg], spilled: usize) -> bool
     requires few { k < 2 ^ 32 }
@@ -609,7 +609,7 @@ fn keeps(micros: &[MicroOp], k: usize, registers: &[Reg], spilled: usize) -> boo
     true
 }
 
-/// Whether they take them back, with another word behind them.
+/// Whether they take them back, with another word after them.
 fn takes(micros: &[MicroOp], k: usize, registers: &[Reg], spilled: usize) -> bool
     requires few { k < 2 ^ 32 }
     requires spilled { spilled ≤ 3 }

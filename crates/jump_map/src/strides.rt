@@ -1,7 +1,7 @@
 //! Strides: what is executed at once from a word of an image on.
 //!
-//! That is one word, or a whole sequence of which the word is the first, or a pair: an operation
-//! and what stands behind it. Each word has a kind of stride, so a machine may begin anywhere. The
+//! That is one word, or a whole sequence that begins with the word, or a pair: an operation and
+//! what stands after it. Each word has a kind of stride, so a machine may begin anywhere. The
 //! operands stay with the micro-ops of the words.
 
 ghost use Rattle.std.specs.Prelude.{ℕ, List};
@@ -12,7 +12,7 @@ use micro_op::{MicroKind, MicroOp};
 use rv32_decode::Reg;
 
 /// What is executed at once from a word on.
-#[derive(Clone, Copy, Debug, PartialEq, Eq)]
+#[derive(Clone, Copy, PartialEq, Eq)]
 pub enum StrideKind {
     /// The path that serves every word serves this one.
     Slow,
@@ -65,14 +65,14 @@ pub enum StrideKind {
     Divu,
     Rem,
     Remu,
-    /// A branch past the jump behind it, and that jump.
+    /// A branch past the jump after it, and that jump.
     OverEq,
     OverNe,
     OverLt,
     OverGe,
     OverLtu,
     OverGeu,
-    /// A poll, a branch past the jump behind it, and that jump.
+    /// A poll, a branch past the jump after it, and that jump.
     PollOverEq,
     PollOverNe,
     PollOverLt,
@@ -105,7 +105,7 @@ pub enum StrideKind {
     ReadWord2,
     ReadByteU2,
     ReadHalfU2,
-    /// A store whose line's state is tested, with so many spilled.
+    /// A store whose line's state is tested, with 0 to 2 registers spilled.
     WriteByte0,
     WriteHalf0,
     WriteWord0,
@@ -115,10 +115,11 @@ pub enum StrideKind {
     WriteByte2,
     WriteHalf2,
     WriteWord2,
-    /// A load that looks at its value, with so many spilled.
+    /// A load that looks at its value, with 0 to 2 registers spilled.
     Flag0,
     Flag1,
-    /// The head of a batch that only loads, with so many spilled, and the reloads behind it.
+    /// The head of a batch that only loads, with 0 to 2 registers spilled, and the reloads after
+    /// it.
     ReadHead0,
     ReadHead1,
     ReadHead2,
@@ -128,7 +129,7 @@ pub enum StrideKind {
     WriteHead1,
     WriteHead2,
     WriteHead3,
-    /// Two operations, of which the second is a sum.
+    /// Two operations; the second is a sum.
     AddImmThenAddImm,
     AddImmThenAdd,
     AddThenAddImm,
@@ -137,7 +138,7 @@ pub enum StrideKind {
     SllImmThenAdd,
     MulThenAddImm,
     MulThenAdd,
-    /// A sum with a number, and a branch past the jump behind it, with that jump.
+    /// A sum with a number, and a branch past the jump after it, with that jump.
     AddImmThenOverEq,
     AddImmThenOverNe,
     AddImmThenOverLt,
@@ -151,7 +152,7 @@ pub enum StrideKind {
     AddImmThenPollOverGe,
     AddImmThenPollOverLtu,
     AddImmThenPollOverGeu,
-    /// A sum of two registers, and a branch past the jump behind it, with that jump.
+    /// A sum of two registers, and a branch past the jump after it, with that jump.
     AddThenOverEq,
     AddThenOverNe,
     AddThenOverLt,

@@ -1,8 +1,10 @@
 #![tactic(auto)]
 //! Micro-ops: instructions decoded flat, for machines that execute them many times.
 //!
-//! A micro-op has one kind, of which its machine makes one `match`, and the operands of that kind.
+//! A micro-op has one kind, which its machine matches on once, and the operands of that kind.
 //! Direct targets are indices of words, and LUI and AUIPC are constants.
+//!
+//! It hands on [`rv32_step`], whose instructions it decodes flat.
 
 mod kinds;
 mod micro_op;
@@ -11,7 +13,7 @@ pub use micro_op::MicroOp;
 pub use rv32_step;
 
 /// What a micro-op does.
-#[derive(Clone, Copy, Debug, PartialEq, Eq)]
+#[derive(Clone, Copy, PartialEq, Eq)]
 pub enum MicroKind {
     /// The path that serves every word serves this one.
     Slow,

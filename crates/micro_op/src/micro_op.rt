@@ -17,7 +17,7 @@ use crate::kinds::{
 use rv32_decode::{Cond, Imm12, Instr, Reg};
 
 /// An instruction with its address worked in. What isn't an operand of its kind is 0.
-#[derive(Clone, Copy, Debug, PartialEq, Eq)]
+#[derive(Clone, Copy, PartialEq, Eq)]
 pub struct MicroOp {
     pub kind: MicroKind,
     pub rd: Reg,

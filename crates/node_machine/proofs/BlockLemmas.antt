@@ -11,15 +11,15 @@ use Rattle.state_table.specs.declared.classes.LineClass.{LineClass}
 use Rattle.state_table.specs.LineClasses.{class_byte}
 use Rattle.state_table.specs.StateByte.{byte_of, state_with}
 use Rattle.state_table.specs.States.{States, state_of, line_byte, line_byte_in}
-use Rattle.word_visits.specs.node_words.flag_memory.Copy.{Copy, memory, bytes_of, bytes_from, CopyLaws}
-use Rattle.word_visits.specs.node_words.flag_memory.Flag.{flag_byte}
-use Rattle.word_visits.specs.node_words.miss_handlers.Waits.{NodeWaits, wait_of}
-use Rattle.word_visits.specs.node_words.miss_handlers.Effects.{local_block}
-use Rattle.word_visits.specs.node_words.node_model.Node.{Node}
-use Rattle.word_visits.specs.node_words.node_model.Turns.{with_state, with_bytes, block_at}
-use Rattle.word_visits.specs.node_words.node_memory.Shelf.{Shelf, copy_of, local_of}
-use Rattle.word_visits.specs.node_words.node_memory.Blocks.{blocks_at}
-use Rattle.word_visits.proofs.words.node_memory.ShelfLemmas.{copy_shared, copy_outside}
+use Rattle.node_words.specs.flag_memory.Copy.{Copy, memory, bytes_of, bytes_from, CopyLaws}
+use Rattle.node_words.specs.flag_memory.Flag.{flag_byte}
+use Rattle.node_words.specs.miss_handlers.Waits.{NodeWaits, wait_of}
+use Rattle.node_words.specs.miss_handlers.Effects.{local_block}
+use Rattle.node_words.specs.node_model.Node.{Node}
+use Rattle.node_words.specs.node_model.Turns.{with_state, with_bytes, block_at}
+use Rattle.node_words.specs.node_memory.Shelf.{Shelf, copy_of, local_of}
+use Rattle.node_words.specs.node_memory.Blocks.{blocks_at}
+use Rattle.node_words.proofs.node_memory.ShelfLemmas.{copy_shared, copy_outside}
 
 -- what the layout's law says of the lines of a block
 pub record LineLaws : Type 0 where

@@ -2,27 +2,26 @@
 use Rattle.std.proofs.Common.{◌≡◌, ◌≢◌, ℕ, zero, suc, ◌+◌, ◌<◌, ◌≤◌, Bool, true, false, cond, eqb, List, [], ◌++◌, Option, refl, sym, ap, ◌∙◌, subst, inl, inr, arith}
 use Rattle.std.proofs.lemmas.Bool.Decides.{eqb_tells, nat_tests}
 use Rattle.rv32_program.specs.declared.End.TheVariants.{Stopped}
-use Rattle.word_visits.specs.node_words.exec_map.Contents.{program_of}
-use Rattle.word_visits.specs.node_words.dsm_messages.declared.messages.Post.{Post}
-use Rattle.word_visits.specs.node_words.node_model.declared.NodeCounts.{NodeCounts}
-use Rattle.word_visits.specs.node_words.declared.exec_state.ExecState.{ExecState}
+use Rattle.node_words.specs.dsm_messages.declared.messages.Post.{Post}
+use Rattle.node_words.specs.node_model.declared.NodeCounts.{NodeCounts}
+use Rattle.node_words.specs.declared.exec_state.ExecState.{ExecState}
 use Rattle.node_machine.specs.declared.protocol_state.ProtocolState.{ProtocolState}
 use Rattle.node_machine.specs.declared.node_state.NodeState.{NodeState}
-use Rattle.word_visits.specs.node_words.declared.lane.ProcessorState as kept
-use Rattle.word_visits.specs.node_words.declared.serve.Served as kept_served
-use Rattle.word_visits.specs.node_words.declared.serve.Following.{Following}
-use Rattle.word_visits.specs.node_words.declared.serve.Following.TheVariants as following_by
-use Rattle.word_visits.specs.node_words.Address.{word_address}
-use Rattle.word_visits.specs.node_words.node_model.Node.{Node, Work, Phase, Running, Resumed, Waiting, Ended, Tally, Nothing_counted, FalseMiss, FallsBack, can_execute, counts_after, printed_also, stop_at, stop_or, word_outcome}
-use Rattle.word_visits.specs.node_words.node_model.Turns.{silent, want_all, each_block_once, with_byes, byes_to, is_ended, after_word, word_turn}
-use Rattle.word_visits.specs.node_words.node_memory.Shelf.{Shelf, Ground, ground_of, local_of}
-use Rattle.word_visits.specs.node_words.Kept.{Follows, Serves, phase_by, wants_by, lane_of}
+use Rattle.node_words.specs.declared.lane.ProcessorState as kept
+use Rattle.node_words.specs.declared.serve.Served as kept_served
+use Rattle.node_words.specs.declared.serve.Following.{Following}
+use Rattle.node_words.specs.declared.serve.Following.TheVariants as following_by
+use Rattle.node_words.specs.Address.{word_address}
+use Rattle.node_words.specs.node_model.Node.{Node, Work, Phase, Running, Resumed, Waiting, Ended, Tally, Nothing_counted, FalseMiss, FallsBack, can_execute, counts_after, printed_also, stop_at, stop_or, word_outcome}
+use Rattle.node_words.specs.node_model.Turns.{silent, want_all, each_block_once, with_byes, byes_to, is_ended, after_word, word_turn}
+use Rattle.node_words.specs.node_memory.Shelf.{Shelf, Ground, ground_of, local_of}
+use Rattle.node_words.specs.Kept.{Follows, Serves, phase_by, wants_by, lane_of}
 use Rattle.node_machine.specs.NodeState.{work_of, node_of, layout_of, with_parts, AreCountsBelow, WaitsInPhase, HasBegun}
 use Rattle.node_machine.specs.ProtocolState.{turn_by}
 use Rattle.node_machine.specs.Wanted.{wants_along, wants_of_word}
 use Rattle.node_machine.specs.declared.wanted.Wanted.{Wanted}
-use Rattle.word_visits.specs.node_words.GoingOn.{phase_on}
-use Rattle.word_visits.proofs.words.WordLemmas.{ending, moved, runs_on, hot_turn}
+use Rattle.node_words.specs.GoingOn.{phase_on}
+use Rattle.node_words.proofs.WordLemmas.{ending, moved, runs_on, hot_turn}
 
 -- 1. Turns
 
@@ -30,22 +29,6 @@ pub byes_by : (nodes : ℕ) (n : Node) (posts : List Post) (p : Option ℕ) (t :
     → turn_by n (cond t (posts ++ byes_to nodes) posts) p ≡ with_byes nodes (turn_by n posts p) t
 byes_by nodes n posts p true = refl
 byes_by nodes n posts p false = refl
-
--- what a inner stands for, with another body
-abbrev pub work_at : NodeState → ExecState → Work
-work_at i b = record {
-  program = program_of b.local.program;
-  image = i.lane.image.now;
-  layout = layout_of b;
-  budget = i.lane.budget;
-}
-
-abbrev pub node_at : NodeState → ExecState → Node
-node_at i b = record (node_of i) {
-  lane = lane_of b.lane (word_address i.lane.at);
-  local = local_of b.local;
-  counts = b.counts;
-}
 
 -- after a word that its micro-op served, where the budget has a further one
 pub passed_turn : (i : NodeState) (b : ExecState) (k : ℕ)

@@ -11,26 +11,24 @@ use Rattle.elf32_read.specs.Elf.{Elf}
 use Rattle.block_layout.specs.Update.{changed}
 use Rattle.block_layout.specs.Layout.{Shape, IsValid, AreRanges, blocks, home, lines, first_line, block_of, is_in, is_among, is_shared as is_shared_line}
 use Rattle.block_layout.specs.declared.ranges.Lines.{Lines}
-use Rattle.word_visits.specs.node_words.exec_map.Contents.{program_of, class_of_line, first_byte, first_bytes, is_private, is_read_only, is_shared, AreRangesOf}
+use Rattle.node_words.specs.exec_map.Contents.{program_of, class_of_line, first_byte, first_bytes, is_private, is_read_only, is_shared, AreRangesOf}
 use Rattle.rv32_program.specs.declared.Class.{Class}
 use Rattle.rv32_program.specs.declared.Class.TheVariants as class
 use Rattle.rv32_program.specs.Program.{IsAccepted}
-use Rattle.state_table.specs.declared.State.{State}
-use Rattle.state_table.specs.declared.State.TheVariants.{Exclusive, Invalid}
 use Rattle.state_table.specs.declared.classes.LineClass.{LineClass}
 use Rattle.state_table.specs.LineClasses.{class_byte, AreClasses}
 use Rattle.state_table.specs.StateByte.{byte_of}
 use Rattle.state_table.specs.States.{States, state_of, line_byte}
-use Rattle.word_visits.specs.node_words.flag_memory.Copy.{Copy, bytes_of, CopyLaws}
-use Rattle.word_visits.specs.node_words.flag_memory.Flag.{flag_byte, flags}
-use Rattle.word_visits.specs.node_words.home_directory.Home.{first_entry}
-use Rattle.word_visits.specs.node_words.home_directory.Effects.{Directory, entry_at, members}
+use Rattle.node_words.specs.flag_memory.Copy.{Copy, bytes_of, CopyLaws}
+use Rattle.node_words.specs.flag_memory.Flag.{flag_byte, flags}
+use Rattle.node_words.specs.home_directory.Home.{first_entry}
+use Rattle.node_words.specs.home_directory.Effects.{Directory, entry_at, members}
 use Rattle.node_machine.specs.NodeState.{entries_in}
-use Rattle.word_visits.specs.node_words.node_model.Node.{IsLaidOver, first_state, is_at_home}
-use Rattle.word_visits.specs.node_words.node_memory.Shelf.{copy_of, HasSharedLines}
+use Rattle.node_words.specs.node_model.Node.{IsLaidOver, first_state, is_at_home}
+use Rattle.node_words.specs.node_memory.Shelf.{copy_of, HasSharedLines}
 use Rattle.node_machine.specs.Opening.{AreFixedClasses, read_only_class, window_class, classes_of, block_bytes, opening_state, opening_bytes}
 use Rattle.node_machine.proofs.BlockLemmas.{LineLaws, is_out, byte_in, byte_out, byte_at_block, flag_out}
-use Rattle.word_visits.proofs.words.node_memory.MemoryLemmas.{private_line, not_window}
+use Rattle.node_words.proofs.node_memory.MemoryLemmas.{private_line, not_window}
 
 -- 1. The classes of the lines that aren't shared
 
@@ -152,14 +150,12 @@ fixed_by : (e : Elf) (line : ℕ) (t : Bool) (k : Class) → class_of_line e lin
     → cond t 5 (cond (is_private line) 0 7) ≡ first_state k false
 fixed_by e line t class.Shared is ro out = cc
 fixed_by e line t class.ReadOnly is ro out = rw ro refl
-fixed_by e line t class.Private is ro out =
-    rw ro (go (is_private line) refl)
+fixed_by e line t class.Private is ro out = rw ro (go (is_private line) refl)
   where
     go : (b : Bool) → is_private line ≡ b → window_byte b ≡ 0
     go true p = refl
     go false p = absurd (not_window e line p is)
-fixed_by e line t class.Unmapped is ro out =
-    rw ro (go (is_private line) refl)
+fixed_by e line t class.Unmapped is ro out = rw ro (go (is_private line) refl)
   where
     private_unmapped : class.Private ≡ class.Unmapped → ⊥
     private_unmapped e = cc
@@ -201,8 +197,7 @@ module _ (laws : LineLaws) (l : Shape) (valid : IsValid l) (e : Elf) (me : ℕ) 
   home_byte line b true h = rw h refl
   home_byte line b false h = rw h refl
 
-  pub first_states : (s : States) → s.layout ≡ l → HasSharedLines e l
-      → AreFixedClasses e s.program
+  pub first_states : (s : States) → s.layout ≡ l → HasSharedLines e l → AreFixedClasses e s.program
       → ((b : ℕ) → b < blocks l → state_of s b ≡ opening_state l me b)
       → (line : ℕ) → line_byte s line ≡ first_state (class_of_line e line) (is_at_home l me line)
   first_states s ls laid fixed states line = go (block_of l line) refl
@@ -279,24 +274,6 @@ unopened old new k n x d is rest b low high = ap (λ g. g b) is ∙ elim (eqb_te
   | inl e ↦ absurd (let q = e.1 in omega (arith, low, q))
   | inr e ↦ (let z : changed old k x b ≡ old b = rw e.0 refl in z ∙ rest b (omega (arith, low)) high)
 ]
-
-pub unchanged : (f : ℕ → State) (b : ℕ) (x : State) → f b ≡ x → f ≡ changed f b x
-unchanged f b x is = fun_ext (λ k. elim (eqb_tells k b) [
-  | inl e ↦ (let z : x ≡ changed f b x k = rw e.0 refl in ap f e.1 ∙ is ∙ z)
-  | inr e ↦ rw e.0 refl
-])
-
-pub home_state : (l : Shape) (me b h : ℕ) → h ≡ home l b → h ≡ me → opening_state l me b ≡ Exclusive
-home_state l me b h is same = let t : eqb (home l b) me ≡ true = grind (arith, nat_tests) in rw t refl
-
-pub away_state : (l : Shape) (me b h : ℕ) → h ≡ home l b → h ≢ me → opening_state l me b ≡ Invalid
-away_state l me b h is apart = let t : eqb (home l b) me ≡ false = grind (arith, nat_tests) in rw t refl
-
-pub home_bytes : (e : Elf) (l : Shape) (me b h : ℕ) → h ≡ home l b → h ≡ me → opening_bytes e l me b ≡ block_bytes e l b
-home_bytes e l me b h is same = let t : eqb (home l b) me ≡ true = grind (arith, nat_tests) in rw t refl
-
-pub away_bytes : (e : Elf) (l : Shape) (me b h : ℕ) → h ≡ home l b → h ≢ me → opening_bytes e l me b ≡ flags (64 * lines l b)
-away_bytes e l me b h is apart = let t : eqb (home l b) me ≡ false = grind (arith, nat_tests) in rw t refl
 
 pub take_whole : (rs : List Lines) (i : ℕ) → length rs ≤ i → take i rs ≡ rs
 take_whole [] zero within = refl

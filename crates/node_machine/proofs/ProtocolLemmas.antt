@@ -7,7 +7,7 @@ use Rattle.std.specs.Option.{option_map_or}
 use Rattle.block_layout.specs.Layout.{Shape, IsValid, blocks, home, block_of, has_line}
 use Rattle.block_layout.specs.Update.{changed}
 use Rattle.buf_pool.specs.Pool.{Buffer, Slots, empty_buffer}
-use Rattle.word_visits.specs.node_words.exec_map.Contents.{class_of_line, is_shared as is_shared_class}
+use Rattle.node_words.specs.exec_map.Contents.{class_of_line, is_shared as is_shared_class}
 use Rattle.rv32_program.specs.Program.{line_of}
 use Rattle.rv32_program.specs.declared.Class.{Class}
 use Rattle.rv32_program.specs.declared.Class.TheVariants as class
@@ -15,30 +15,30 @@ use Rattle.state_table.specs.declared.State.{State}
 use Rattle.state_table.specs.declared.State.TheVariants.{Exclusive, Shared, Invalid, Pending}
 use Rattle.state_table.specs.StateByte.{byte_of}
 use Rattle.state_table.specs.States.{state_of, line_byte}
-use Rattle.word_visits.specs.node_words.dsm_messages.declared.messages.Need.{Need}
-use Rattle.word_visits.specs.node_words.dsm_messages.declared.messages.Need.TheVariants as need
-use Rattle.word_visits.specs.node_words.dsm_messages.declared.messages.Message.{Message}
-use Rattle.word_visits.specs.node_words.dsm_messages.declared.messages.Message.TheVariants.{Read, Write, FwdRead, FwdWrite, Inval, Data, Grant, Ack, Done, Bye}
-use Rattle.word_visits.specs.node_words.dsm_messages.declared.messages.Post.{Post}
-use Rattle.word_visits.specs.node_words.home_directory.declared.wait.Wait.{Wait}
-use Rattle.word_visits.specs.node_words.home_directory.Home.{DirectoryEntry, Home, first_entry, post}
-use Rattle.word_visits.specs.node_words.home_directory.Effects.{Directory, HomeEffect, entry_at, entries_of, home_at, home_effect, is_home, ask_effect, done_effect}
-use Rattle.word_visits.specs.node_words.home_directory.Table.{BlockFacts, LocalBlock, HomeRow, NodeRow, Miss, node_row, ask_row, done_row, want_row, meets, state_in_wait, first_wait, request}
-use Rattle.word_visits.specs.node_words.miss_handlers.Waits.{NodeWaits, wait_of}
-use Rattle.word_visits.specs.node_words.miss_handlers.Effects.{NodeBlocks, block_facts, local_block, row_effect, node_row_at, message_effect, miss_of, states_after, waits_after, buffers, pool_after, pool_after_miss}
-use Rattle.word_visits.specs.node_words.miss_handlers.Rows.{AtHome, AtNode, at_home, at_node, if_home, home_of, node_row_of, row_of}
-use Rattle.word_visits.specs.node_words.node_model.declared.NodeCounts.{NodeCounts}
-use Rattle.word_visits.specs.node_words.declared.exec_state.ExecState.{ExecState}
+use Rattle.node_words.specs.dsm_messages.declared.messages.Need.{Need}
+use Rattle.node_words.specs.dsm_messages.declared.messages.Need.TheVariants as need
+use Rattle.node_words.specs.dsm_messages.declared.messages.Message.{Message}
+use Rattle.node_words.specs.dsm_messages.declared.messages.Message.TheVariants.{Read, Write, FwdRead, FwdWrite, Inval, Data, Grant, Ack, Done, Bye}
+use Rattle.node_words.specs.dsm_messages.declared.messages.Post.{Post}
+use Rattle.node_words.specs.home_directory.declared.wait.Wait.{Wait}
+use Rattle.node_words.specs.home_directory.Home.{DirectoryEntry, Home, first_entry, post}
+use Rattle.node_words.specs.home_directory.Effects.{Directory, HomeEffect, entry_at, entries_of, home_at, home_effect, is_home, ask_effect, done_effect}
+use Rattle.node_words.specs.home_directory.Table.{BlockFacts, LocalBlock, HomeRow, NodeRow, Miss, node_row, ask_row, done_row, want_row, meets, state_in_wait, first_wait, request}
+use Rattle.node_words.specs.miss_handlers.Waits.{NodeWaits, wait_of}
+use Rattle.node_words.specs.miss_handlers.Effects.{NodeBlocks, block_facts, local_block, row_effect, node_row_at, message_effect, miss_of, states_after, waits_after, buffers, pool_after, pool_after_miss}
+use Rattle.node_words.specs.miss_handlers.Rows.{AtHome, AtNode, at_home, at_node, if_home, home_of, node_row_of, row_of}
+use Rattle.node_words.specs.node_model.declared.NodeCounts.{NodeCounts}
+use Rattle.node_words.specs.declared.exec_state.ExecState.{ExecState}
 use Rattle.node_machine.specs.declared.protocol_state.ProtocolState.{ProtocolState}
-use Rattle.word_visits.specs.node_words.node_model.Node.{Node, Want, first_state}
-use Rattle.word_visits.specs.node_words.node_model.Turns.{silent, holding, block_at, by_row, by_row_or, count_row, count_want, with_state, with_miss, want_in, is_same_want}
-use Rattle.word_visits.specs.node_words.node_memory.Shelf.{Shelf, copy_of, local_of}
-use Rattle.word_visits.specs.node_words.node_memory.Blocks.{ShelfLaws, blocks_at}
+use Rattle.node_words.specs.node_model.Node.{Node, Want, first_state}
+use Rattle.node_words.specs.node_model.Turns.{silent, holding, block_at, by_row, by_row_or, count_row, count_want, with_state, with_miss, want_in, is_same_want}
+use Rattle.node_words.specs.node_memory.Shelf.{Shelf, copy_of, local_of}
+use Rattle.node_words.specs.node_memory.Blocks.{ShelfLaws, blocks_at}
 use Rattle.node_machine.specs.NodeState.{entries_in, layout_of, with_parts, IsProtocolState}
 use Rattle.node_machine.specs.ProtocolState.{HomeSide, NodeSide, HasRouted, is_order, is_unmet, turn_by}
 use Rattle.node_machine.proofs.BlockLemmas.{LineLaws, set_states, same_states, put_bytes, same_copy, block_is, is_out, byte_in, byte_out}
 use Rattle.node_machine.proofs.RowLemmas.{RowFacts, row_facts, count_nothing, none_given}
-use Rattle.node_machine.proofs.WaitLemmas.{none_waits, no_waits, some_waits}
+use Rattle.node_machine.proofs.WaitLemmas.{none_waits, no_waits}
 
 -- the counts after a message that was handled, by what the code counts
 abbrev pub counted : Message → List Post → NodeCounts → NodeCounts
@@ -192,8 +192,7 @@ module _ (laws : LineLaws) (n : Node) (body body' : ExecState) (d d' : ProtocolS
       let bb : b < blocks (layout_of body) = grind (arith, nat_tests) in
       row_turn b row bb side f.1
 
-  pub node_turn : (j b : ℕ)
-      → NodeSide d d' body.local body'.local posts
+  pub node_turn : (j b : ℕ) → NodeSide d d' body.local body'.local posts
       (row_effect (layout_of body) (blocks_at d.waits body.local) b (node_row_at (layout_of body) (blocks_at d.waits body.local) j m b))
       → by_row_or (layout_of body) (with_parts n body d) (node_row_of (layout_of body) (holding (layout_of body) (with_parts n body d)) j b m)
       ≡ turn_by (with_parts n body' d') posts None
@@ -499,18 +498,6 @@ module _ (laws : LineLaws) (n : Node) (before : List Post) (p : Option ℕ) (bod
           ∙ missed_turn miss refl (subst (λ (x : Option Miss). HasWanted d d' body.local body'.local b need posts x) some w)
           (block_at (layout_of body) (with_parts n body d) b).state (sym same)
           (counts ∙ ap (λ (x : Option Miss). counts_if x need (state_of body.local.states b) body.counts) some)
-
--- a wait was begun where the block didn't meet the need
-pub begun : (d d' : ProtocolState) (s s' : Shelf) (b : ℕ) (need : Need) (posts : List Post)
-    → HasWanted d d' s s' b need posts (miss_of d.waits s.states d.pool b need)
-    → meets need (state_of s.states b) ≡ false → 0 < length d'.waits.waits
-begun d d' s s' b need posts w e =
-    let some = want_missed (block_facts d.waits.layout b) (record { state = state_of s.states b; bytes = []; wait = wait_of d.waits b })
-    b need (empty_buffer d.pool.bytes) e in
-    let wait = w.wait ∙ ap (waits_after (wait_of d.waits) b) some in
-    let z : eqb b b ≡ true = grind (arith, nat_tests) in
-    let there : changed (wait_of d.waits) b (Some (first_wait need)) b ≡ Some (first_wait need) = rw z refl in
-    some_waits d'.waits.waits b (first_wait need) (ap (λ (g : ℕ → Option Wait). g b) wait ∙ there)
 
 -- no wait for another block is begun or ends
 pub others_wait : (f : ℕ → Option Wait) (b x : ℕ) (miss : Option Miss) → (x ≡ b → ⊥) → waits_after f b miss x ≡ f x

@@ -1,14 +1,14 @@
 -- What a row says of what it sends, gives up and leaves of a wait.
 use Rattle.std.proofs.Common.{◌≡◌, ℕ, ◌≤◌, ◌+◌, ◌&&◌, Bool, true, false, cond, ltb, List, [], length, refl, sym, ap, ◌∙◌, subst, Option, Some, None, arith, add-zero}
 use Rattle.buf_pool.specs.Pool.{Buffer}
-use Rattle.word_visits.specs.node_words.home_directory.declared.wait.Wait.{Wait}
-use Rattle.word_visits.specs.node_words.home_directory.declared.wait.Answer.TheVariants.{ByData, ByGrant}
-use Rattle.word_visits.specs.node_words.dsm_messages.declared.messages.Message.{Message}
-use Rattle.word_visits.specs.node_words.dsm_messages.declared.messages.Message.TheVariants.{Read, Write, FwdRead, FwdWrite, Inval, Data, Grant, Ack, Done, Bye}
-use Rattle.word_visits.specs.node_words.dsm_messages.declared.messages.Post.{Post}
-use Rattle.word_visits.specs.node_words.home_directory.Table.{BlockFacts, LocalBlock, NodeRow, node_row, completion, is_complete, data_row, grant_row, ack_row, with_answer, one_ack_more}
-use Rattle.word_visits.specs.node_words.node_model.declared.NodeCounts.{NodeCounts}
-use Rattle.word_visits.specs.node_words.node_model.Turns.{count_row}
+use Rattle.node_words.specs.home_directory.declared.wait.Wait.{Wait}
+use Rattle.node_words.specs.home_directory.declared.wait.Answer.TheVariants.{ByData, ByGrant}
+use Rattle.node_words.specs.dsm_messages.declared.messages.Message.{Message}
+use Rattle.node_words.specs.dsm_messages.declared.messages.Message.TheVariants.{Read, Write, FwdRead, FwdWrite, Inval, Data, Grant, Ack, Done, Bye}
+use Rattle.node_words.specs.dsm_messages.declared.messages.Post.{Post}
+use Rattle.node_words.specs.home_directory.Table.{BlockFacts, LocalBlock, NodeRow, node_row, completion, is_complete, data_row, grant_row, ack_row, with_answer, one_ack_more}
+use Rattle.node_words.specs.node_model.declared.NodeCounts.{NodeCounts}
+use Rattle.node_words.specs.node_model.Turns.{count_row}
 use Rattle.node_machine.specs.ProtocolState.{is_order}
 
 -- a row clears a reservation where it is an order, and sends at most one message; it leaves no wait
@@ -39,8 +39,7 @@ completed m f lb b v w is order = by_either (RowFacts m lb) (is_complete w.answe
       clears = rw order refl;
       few = omega arith;
       wait = λ e. absurd (none_some v (sym e ∙ is));
-    })
-    (record {
+    }) (record {
       clears = rw order refl;
       few = omega arith;
       wait = λ e. absurd (none_some v (sym e ∙ is));

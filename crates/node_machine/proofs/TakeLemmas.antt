@@ -1,30 +1,30 @@
 -- A node after a message, by what it stores.
-use Rattle.std.proofs.Common.{◌≡◌, ℕ, ◌+◌, ◌<◌, ◌≤◌, ◌&&◌, ◌⊎◌, not, Bool, true, false, cond, eqb, List, [], ◌∷◌, ◌++◌, length, set, None, refl, sym, ap, ◌∙◌, subst, inl, inr, arith}
+use Rattle.std.proofs.Common.{◌≡◌, ℕ, ◌+◌, ◌<◌, ◌≤◌, ◌&&◌, not, Bool, true, false, cond, eqb, List, [], ◌∷◌, ◌++◌, length, set, None, refl, sym, ap, ◌∙◌, subst, inl, inr, arith}
 use Rattle.std.specs.Prelude.{is_some}
 use Rattle.std.proofs.Math.Path.{fun_ext}
 use Rattle.std.proofs.lemmas.List.{get_or-set_same, get_or-set_other}
 use Rattle.std.proofs.lemmas.Bool.Decides.{eqb_tells, nat_tests}
 use Rattle.block_layout.specs.Layout.{Shape, blocks}
 use Rattle.block_layout.specs.Update.{changed}
-use Rattle.word_visits.specs.node_words.dsm_messages.declared.messages.Message.{Message}
-use Rattle.word_visits.specs.node_words.dsm_messages.declared.messages.Message.TheVariants.{Read, Write, FwdRead, FwdWrite, Inval, Data, Grant, Ack, Done, Bye}
-use Rattle.word_visits.specs.node_words.dsm_messages.declared.messages.Post.{Post}
-use Rattle.word_visits.specs.node_words.dsm_messages.declared.messages.Wire.{Wire}
-use Rattle.word_visits.specs.node_words.home_directory.Effects.{members}
-use Rattle.word_visits.specs.node_words.home_directory.Home.{count_of}
-use Rattle.word_visits.specs.node_words.miss_handlers.Rows.{row_of}
-use Rattle.word_visits.specs.node_words.miss_handlers.Waits.{NodeWaits, AreWaits, wait_of}
+use Rattle.node_words.specs.dsm_messages.declared.messages.Message.{Message}
+use Rattle.node_words.specs.dsm_messages.declared.messages.Message.TheVariants.{Read, Write, FwdRead, FwdWrite, Inval, Data, Grant, Ack, Done, Bye}
+use Rattle.node_words.specs.dsm_messages.declared.messages.Post.{Post}
+use Rattle.node_words.specs.dsm_messages.declared.messages.Wire.{Wire}
+use Rattle.node_words.specs.home_directory.Effects.{members}
+use Rattle.node_words.specs.home_directory.Home.{count_of}
+use Rattle.node_words.specs.miss_handlers.Rows.{row_of}
+use Rattle.node_words.specs.miss_handlers.Waits.{NodeWaits, AreWaits, wait_of}
 use Rattle.rv32_program.specs.declared.End.TheVariants.{Stopped}
-use Rattle.word_visits.specs.node_words.declared.exec_state.ExecState.{ExecState}
+use Rattle.node_words.specs.declared.exec_state.ExecState.{ExecState}
 use Rattle.node_machine.specs.declared.protocol_state.ProtocolState.{ProtocolState}
 use Rattle.node_machine.specs.declared.node_state.NodeState.{NodeState}
-use Rattle.word_visits.specs.node_words.node_model.declared.Entry.{Entry}
-use Rattle.word_visits.specs.node_words.node_model.declared.NodeCounts.{NodeCounts}
-use Rattle.word_visits.specs.node_words.node_model.Node.{Node, Work, NodeMemory, Phase, Running, Resumed, Waiting, Ended, tally_resumed}
-use Rattle.word_visits.specs.node_words.node_model.Turns.{Turn, handled, journaled, later, resumed, has_no_wait, after_message, take_turn, with_byes, is_ended, by_row_or, holding, words_before}
+use Rattle.node_words.specs.node_model.declared.Entry.{Entry}
+use Rattle.node_words.specs.node_model.declared.NodeCounts.{NodeCounts}
+use Rattle.node_words.specs.node_model.Node.{Node, Work, NodeMemory, Phase, Running, Resumed, Waiting, Ended, tally_resumed}
+use Rattle.node_words.specs.node_model.Turns.{Turn, handled, journaled, later, resumed, has_no_wait, after_message, take_turn, with_byes, is_ended, by_row_or, holding, words_before}
 use Rattle.node_machine.specs.NodeState.{work_of, node_of, layout_of, with_all, phase_resumed, lane_after_wait, counts_after_wait, AreCountsBelow, WaitsInPhase}
 use Rattle.node_machine.specs.ProtocolState.{turn_by}
-use Rattle.word_visits.specs.node_words.node_memory.Shelf.{local_of}
+use Rattle.node_words.specs.node_memory.Shelf.{local_of}
 use Rattle.node_machine.proofs.NodeStateLemmas.{counts_up, tally_below}
 use Rattle.node_machine.proofs.WaitLemmas.{waits_count}
 
@@ -77,8 +77,7 @@ pub taken : (i : NodeState) (from : ℕ) (wire : Wire) (b : ExecState) (d : Prot
       lane = lane_after_wait (local_of b.local) idle (node_of i).phase (node_of i).lane;
       phase = phase_resumed i.lane.budget i.lane.executed idle (node_of i).phase;
       counts = counts_after_wait (local_of b.local) idle (node_of i).phase b.counts;
-    }
-    → after_message (work_of i) (node_of i) from wire ≡ turn_by last posts None
+    } → after_message (work_of i) (node_of i) from wire ≡ turn_by last posts None
 taken i from wire b d byes posts idle last handle none is =
     let after = with_all (journaled (node_of i) from wire) b d byes in
     ap (λ (t : Turn). turn_by (resumed (work_of i) t.node t.node.phase) t.sends t.printed) (handle (journaled (node_of i) from wire) refl)
@@ -140,17 +139,6 @@ resumed_waits budget executed (Waiting r) old new true is h none = go (eqb execu
     go false = zero_test new is
 resumed_waits budget executed (Waiting r) old new false is h none = some_left new is
 
--- a node that ends by a message has sent at most one
-pub resumed_few : (budget executed : ℕ) (p : Phase) (old new posts : ℕ) (idle : Bool) → eqb new 0 ≡ idle → WaitsInPhase p old
-    → (posts ≤ 1) ⊎ (new ≡ old) → is_ended p ≡ false → is_ended (phase_resumed budget executed idle p) ≡ true → posts ≤ 2
-resumed_few budget executed Running old new posts idle is h few going ended = absurd (let f : false ≡ true = ended in cc)
-resumed_few budget executed Resumed old new posts idle is h few going ended = absurd (let f : false ≡ true = ended in cc)
-resumed_few budget executed (Ended e) old new posts idle is h few going ended = absurd (let f : true ≡ false = going in cc)
-resumed_few budget executed (Waiting r) old new posts false is h few going ended = absurd (let f : false ≡ true = ended in cc)
-resumed_few budget executed (Waiting r) old new posts true is h (inl one) going ended = omega (arith, one)
-resumed_few budget executed (Waiting r) old new posts true is h (inr same) going ended =
-    let z = zero_test new is in absurd (omega (arith, z, same, h))
-
 -- the words that the journal has
 pub words_more : (es : List Entry) (e : Entry) → words_before (es ++ e ∷ []) ≡ words_before es + e.words
 words_more [] e = omega arith
@@ -158,6 +146,3 @@ words_more (x ∷ es) e = let r = words_more es e in omega (arith, r)
 
 pub later_above : (s t : ℕ) → s ≤ later s t
 later_above s t = grind (arith, nat_tests)
-
-pub later_below : (s t m : ℕ) → s < m → t < m → later s t < m
-later_below s t m a b = grind (arith, nat_tests)

@@ -7,30 +7,30 @@ use Rattle.rv32_decode.specs.declared.LoadKind.{LoadKind}
 use Rattle.rv32_decode.specs.declared.Width.{Width}
 use Rattle.rv32_decode.specs.Fields.{unsigned}
 use Rattle.rv32_decode.specs.Widths.{width_of, is_aligned}
-use Rattle.word_visits.specs.node_words.rv32_ops.Operations.{taken}
+use Rattle.node_words.specs.rv32_ops.Operations.{taken}
 use Rattle.rv32_decode.specs.declared.Cond.{Cond}
 use Rattle.rv32_decode.specs.declared.Cond.TheVariants.{Eq, Ne, Lt, Ge, Ltu, Geu}
 use Rattle.rv32_program.specs.Program.{Program}
-use Rattle.word_visits.specs.node_words.rv32_step.Demands.{branch_demand}
-use Rattle.word_visits.specs.node_words.rv32_step.OneMemory as memory
-use Rattle.word_visits.specs.node_words.rv32_step.Registers.{reg}
-use Rattle.word_visits.specs.node_words.rv32_step.declared.Demand.{Demand}
-use Rattle.word_visits.specs.node_words.rv32_step.declared.Demand.TheVariants.{Continues, Jumps, Loads, Stores}
-use Rattle.word_visits.specs.node_words.micro_op.declared.micro_op.MicroOp.{MicroOp}
-use Rattle.word_visits.specs.node_words.micro_op.declared.MicroKind.{MicroKind}
-use Rattle.word_visits.specs.node_words.micro_op.declared.MicroKind.TheVariants.{Slow, Jump, JumpBy, EnterBy, BranchEq, BranchNe, BranchLt, BranchGe, BranchLtu, BranchGeu, LoadByte, LoadHalf, LoadWord, LoadByteU, LoadHalfU, StoreByte, StoreHalf, StoreWord}
-use Rattle.word_visits.specs.node_words.micro_op.Micro.{Meaning, Unserved, Demands, Enters, Meets, EntersAt, meaning_by, meaning_of, index_address, sum_address, loads, stores}
-use Rattle.word_visits.specs.node_words.runtime_words.declared.RtWord.{RtWord}
-use Rattle.word_visits.specs.node_words.runtime_words.declared.RtWord.TheVariants.{Native, Poll, Xjalr, Far}
-use Rattle.word_visits.specs.node_words.runtime_words.Reading.{read_word}
-use Rattle.word_visits.specs.node_words.templates.declared.places.Place.{Place}
-use Rattle.word_visits.specs.node_words.jump_map.declared.image.ImageWord.{ImageWord}
-use Rattle.word_visits.specs.node_words.jump_map.Image.{Cell, image_base, most_words, address_of_word, read_cell}
-use Rattle.word_visits.specs.node_words.jump_map.Maps.{fetch}
-use Rattle.word_visits.specs.node_words.jump_map.Micro.{IsMicroWord, IsMicroAt}
-use Rattle.word_visits.specs.node_words.node_model.Node.{Node, Work, ProcessorState, NodeMemory, WordOutcome, Nothing_counted, region_of, native, indirect, execute_read, execute_at, place_address}
-use Rattle.word_visits.specs.node_words.Address.{word_address}
-use Rattle.word_visits.proofs.words.StepLemmas.{load_next, store_next}
+use Rattle.node_words.specs.rv32_step.Demands.{branch_demand}
+use Rattle.node_words.specs.rv32_step.OneMemory as memory
+use Rattle.node_words.specs.rv32_step.Registers.{reg}
+use Rattle.node_words.specs.rv32_step.declared.Demand.{Demand}
+use Rattle.node_words.specs.rv32_step.declared.Demand.TheVariants.{Continues, Jumps, Loads, Stores}
+use Rattle.node_words.specs.micro_op.declared.micro_op.MicroOp.{MicroOp}
+use Rattle.node_words.specs.micro_op.declared.MicroKind.{MicroKind}
+use Rattle.node_words.specs.micro_op.declared.MicroKind.TheVariants.{Slow, Jump, JumpBy, EnterBy, BranchEq, BranchNe, BranchLt, BranchGe, BranchLtu, BranchGeu, LoadByte, LoadHalf, LoadWord, LoadByteU, LoadHalfU, StoreByte, StoreHalf, StoreWord}
+use Rattle.node_words.specs.micro_op.Micro.{Meaning, Unserved, Demands, Enters, Meets, EntersAt, meaning_by, meaning_of, index_address, sum_address, loads, stores}
+use Rattle.node_words.specs.runtime_words.declared.RtWord.{RtWord}
+use Rattle.node_words.specs.runtime_words.declared.RtWord.TheVariants.{Native, Poll, Xjalr, Far}
+use Rattle.node_words.specs.runtime_words.Reading.{read_word}
+use Rattle.node_words.specs.templates.declared.places.Place.{Place}
+use Rattle.node_words.specs.jump_map.declared.image.ImageWord.{ImageWord}
+use Rattle.node_words.specs.jump_map.Image.{Cell, image_base, most_words, address_of_word, read_cell}
+use Rattle.node_words.specs.jump_map.Maps.{fetch}
+use Rattle.node_words.specs.jump_map.Micro.{IsMicroWord, IsMicroAt}
+use Rattle.node_words.specs.node_model.Node.{Node, Work, ProcessorState, NodeMemory, WordOutcome, Nothing_counted, region_of, native, indirect, execute_read, execute_at, place_address}
+use Rattle.node_words.specs.Address.{word_address}
+use Rattle.node_words.proofs.StepLemmas.{load_next, store_next}
 use Rattle.node_machine.specs.declared.node_state.NodeState.{NodeState}
 use Rattle.node_machine.specs.NodeState.{node_of, work_of, IsNode}
 use Rattle.node_machine.specs.declared.touch.Touch.{Touch}

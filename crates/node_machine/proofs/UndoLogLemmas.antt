@@ -1,11 +1,9 @@
 -- Words that a undo_log takes back.
-use Rattle.std.proofs.Common.{◌≡◌, ℕ, zero, suc, ◌+◌, ◌-◌, ◌<◌, ◌≤◌, true, List, refl, sym, subst, arith, add-zero}
-use Rattle.word_visits.specs.node_words.declared.exec_state.ExecState.{ExecState}
-use Rattle.word_visits.specs.node_words.GoingOn.{BodyGoesOn, node_on, phase_on}
-use Rattle.word_visits.specs.node_words.Runs.{GoesOnBy}
-use Rattle.word_visits.specs.node_words.node_model.Node.{Node, Work, Phase, Running, can_execute}
-use Rattle.word_visits.specs.Tallies.{WordTally}
-use Rattle.word_visits.specs.TallyBodies.{BodyHasSteps, HaveSteps}
+use Rattle.std.proofs.Common.{◌≡◌, ℕ, zero, suc, ◌+◌, ◌-◌, ◌<◌, ◌≤◌, true, refl, sym, subst, arith, add-zero}
+use Rattle.node_words.specs.declared.exec_state.ExecState.{ExecState}
+use Rattle.node_words.specs.GoingOn.{BodyGoesOn, BodyTells, node_on, phase_on}
+use Rattle.node_words.specs.Runs.{GoesOnBy}
+use Rattle.node_words.specs.node_model.Node.{Node, Work, Phase, Running, can_execute}
 use Rattle.node_machine.specs.declared.node_state.NodeState.{NodeState}
 use Rattle.node_machine.specs.declared.phase.Phase as kept
 use Rattle.node_machine.specs.NodeState.{node_of, work_of, phase_of, IsNode, WaitsInPhase}
@@ -46,22 +44,19 @@ goes_on_noted i b at most (suc k) p on may counts phase =
     subst (λ (x : Node). GoesOnBy (work_of i) (suc k) (node_of i) x) end
     (subst (λ (x : Node). GoesOnBy (work_of i) (suc k) x (node_on (node_of i) b at (suc k))) start goes)
 
--- its words are tallied
-pub steps_noted : (i : NodeState) (most words : ℕ) (ts : List WordTally) (steps : ℕ)
-    → BodyHasSteps i.lane.image.now most i.lane.at i.shared.body.value words ts steps
+-- what its words tell
+pub tells_noted : (told : Work → ℕ → Node → Type 0) (i : NodeState) (most words : ℕ)
+    → BodyTells told i.lane.image.now most i.lane.at i.shared.body.value words
     → (1 ≤ words → (can_execute (phase_of i.lane.phase) ≡ true) × (i.lane.executed + most < i.lane.budget))
-    → HaveSteps (work_of i) words (node_of i) ts steps
-steps_noted i most zero ts steps have may =
-    let work : Work = record (work_of i) { budget = most + 1 } in
-    let n : Node = record (node_of i) { phase = Running; executed = 0 } in
-    record { tallied = tt; count = (have work n refl refl refl (omega arith)).count }
-steps_noted i most (suc k) ts steps have may =
+    → told (work_of i) words (node_of i)
+tells_noted told i most zero tells may = tells.none refl (work_of i) (node_of i)
+tells_noted told i most (suc k) tells may =
     let can = may (omega arith) in
     let start : node_on (node_of i) i.shared.body.value i.lane.at 0 ≡ node_of i = λ t. record (node_of i) {
       executed = add-zero i.lane.executed t;
       stamp = add-zero i.shared.stamp t;
     } in
-    subst (λ (x : Node). HaveSteps (work_of i) (suc k) x ts steps) start (have (work_of i) (node_of i) refl refl can.0 can.1)
+    subst (λ (x : Node). told (work_of i) (suc k) x) start (tells.some (work_of i) (node_of i) refl refl can.0 can.1)
 
 -- a node that may execute has a word left
 pub left_after : (i : NodeState) (words most : ℕ) → IsNode i → words ≤ most → most ≤ i.lane.budget - (i.lane.executed + 1)

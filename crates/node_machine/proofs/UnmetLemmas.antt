@@ -3,33 +3,33 @@ use Rattle.std.proofs.Common.{◌≡◌, ℕ, ◌%◌, ◌*◌, ◌/◌, Bool, t
 use Rattle.std.specs.Prelude.{pos}
 use Rattle.rv32_program.specs.Targets.{offset_address}
 use Rattle.rv32_program.specs.declared.Exit.TheVariants.{Misaligned}
-use Rattle.word_visits.specs.node_words.rv32_step.Registers.{reg}
-use Rattle.word_visits.specs.node_words.rv32_step.OneMemory.{next_pc}
+use Rattle.node_words.specs.rv32_step.Registers.{reg}
+use Rattle.node_words.specs.rv32_step.OneMemory.{next_pc}
 use Rattle.rv32_decode.specs.Widths.{is_aligned, width_of}
 use Rattle.rv32_decode.specs.declared.Width.{Width}
 use Rattle.rv32_decode.specs.declared.Width.TheVariants.{Word}
 use Rattle.rv32_decode.specs.declared.LoadKind.TheVariants.{Word as WordLoad}
-use Rattle.word_visits.specs.node_words.rv32_ops.Operations.{amo}
+use Rattle.node_words.specs.rv32_ops.Operations.{amo}
 use Rattle.rv32_program.specs.Program.{Program, line_of}
-use Rattle.word_visits.specs.node_words.rv32_step.declared.Demand.{Demand}
-use Rattle.word_visits.specs.node_words.rv32_step.declared.Demand.TheVariants.{Sets, Continues, Jumps, Branches, Loads, Stores, Calls, Traps, Reserves, StoresIf, Updates}
-use Rattle.word_visits.specs.node_words.rv32_step.declared.CallStep.{CallStep}
-use Rattle.word_visits.specs.node_words.rv32_step.declared.CallStep.TheVariants.{Ends, Returns, Puts}
-use Rattle.word_visits.specs.node_words.rv32_step.Demands.{demand_of, call_step}
-use Rattle.word_visits.specs.node_words.rv32_step.Memory.{load_value}
-use Rattle.word_visits.specs.node_words.runtime_words.declared.RtWord.{RtWord}
-use Rattle.word_visits.specs.node_words.runtime_words.declared.RtWord.TheVariants.{Native, MissR, MissW, Poll, Call, Xjalr, Batch, Prepare, Far, TrapFetch, TrapOff, TrapIllegal, TrapEbreak}
-use Rattle.word_visits.specs.node_words.templates.declared.places.Place.{Place}
-use Rattle.word_visits.specs.node_words.jump_map.declared.image.ImageWord.{ImageWord}
-use Rattle.word_visits.specs.node_words.jump_map.Maps.{fetch}
-use Rattle.word_visits.specs.node_words.llsc.Reservation.{holds}
-use Rattle.word_visits.specs.node_words.node_model.Node.{Node, Work, ProcessorState, NodeMemory, WordOutcome, Move, Next, Enters, Want, set_register, native, store, load, region_of, only_moves, exit_by, put_byte, make_call, miss_r, miss_r_by, miss_w, miss_w_by, prepare, prepare_by, indirect, execute, execute_read, execute_at, place_address, word_outcome, is_mapped_state, is_readable_state, is_fixed_state, is_writable_state, store_if, byte_at, batch, batch_by, fall_back, unmet, meets_need, refuses_need, need_of_run}
-use Rattle.word_visits.specs.node_words.node_model.Turns.{wants_of}
+use Rattle.node_words.specs.rv32_step.declared.Demand.{Demand}
+use Rattle.node_words.specs.rv32_step.declared.Demand.TheVariants.{Sets, Continues, Jumps, Branches, Loads, Stores, Calls, Traps, Reserves, StoresIf, Updates}
+use Rattle.node_words.specs.rv32_step.declared.CallStep.{CallStep}
+use Rattle.node_words.specs.rv32_step.declared.CallStep.TheVariants.{Ends, Returns, Puts}
+use Rattle.node_words.specs.rv32_step.Demands.{demand_of, call_step}
+use Rattle.node_words.specs.rv32_step.Memory.{load_value}
+use Rattle.node_words.specs.runtime_words.declared.RtWord.{RtWord}
+use Rattle.node_words.specs.runtime_words.declared.RtWord.TheVariants.{Native, MissR, MissW, Poll, Call, Xjalr, Batch, Prepare, Far, TrapFetch, TrapOff, TrapIllegal, TrapEbreak}
+use Rattle.node_words.specs.templates.declared.places.Place.{Place}
+use Rattle.node_words.specs.jump_map.declared.image.ImageWord.{ImageWord}
+use Rattle.node_words.specs.jump_map.Maps.{fetch}
+use Rattle.node_words.specs.llsc.Reservation.{holds}
+use Rattle.node_words.specs.node_model.Node.{Node, Work, ProcessorState, NodeMemory, WordOutcome, Move, Next, Enters, Want, set_register, native, store, load, region_of, only_moves, exit_by, put_byte, make_call, miss_r, miss_r_by, miss_w, miss_w_by, prepare, prepare_by, indirect, execute, execute_read, execute_at, place_address, word_outcome, is_mapped_state, is_readable_state, is_fixed_state, is_writable_state, store_if, byte_at, batch, batch_by, fall_back, unmet, meets_need, refuses_need, need_of_run}
+use Rattle.node_words.specs.node_model.Turns.{wants_of}
 use Rattle.std.proofs.lemmas.List.{append-nil}
-use Rattle.word_visits.specs.node_words.dsm_messages.declared.messages.Need.{Need}
-use Rattle.word_visits.specs.node_words.dsm_messages.declared.messages.Need.TheVariants.{Read, Write}
+use Rattle.node_words.specs.dsm_messages.declared.messages.Need.{Need}
+use Rattle.node_words.specs.dsm_messages.declared.messages.Need.TheVariants.{Read, Write}
 use Rattle.node_machine.specs.ProtocolState.{AreUnmet, is_unmet}
-use Rattle.word_visits.proofs.words.StepLemmas.{load_next, store_next}
+use Rattle.node_words.proofs.StepLemmas.{load_next, store_next}
 
 -- an outcome's wants are unmet in what words see after it
 abbrev IsUnmet : WordOutcome → Type 0

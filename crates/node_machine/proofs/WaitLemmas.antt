@@ -3,10 +3,10 @@ use Rattle.std.proofs.Common.{◌≡◌, ◌≢◌, ℕ, zero, suc, ◌+◌, ◌
 use Rattle.std.specs.Prelude.{is_some}
 use Rattle.std.proofs.lemmas.Bool.Decides.{eqb_tells, nat_tests}
 use Rattle.block_layout.specs.Layout.{Shape, blocks}
-use Rattle.word_visits.specs.node_words.home_directory.declared.wait.Wait.{Wait}
-use Rattle.word_visits.specs.node_words.home_directory.Home.{count_of}
-use Rattle.word_visits.specs.node_words.miss_handlers.declared.Waiting.{Waiting}
-use Rattle.word_visits.specs.node_words.miss_handlers.Waits.{wait_in, AreWaits}
+use Rattle.node_words.specs.home_directory.declared.wait.Wait.{Wait}
+use Rattle.node_words.specs.home_directory.Home.{count_of}
+use Rattle.node_words.specs.miss_handlers.declared.Waiting.{Waiting}
+use Rattle.node_words.specs.miss_handlers.Waits.{wait_in, AreWaits}
 
 count_alike : (p q : ℕ → Bool) (n : ℕ) → ((i : ℕ) → i < n → p i ≡ q i) → count_of p n ≡ count_of q n
 count_alike p q zero h = refl
@@ -56,7 +56,3 @@ no_waits (w ∷ ws) none =
     let t : eqb w.block w.block ≡ true = grind (arith, nat_tests) in
     let here : wait_in (w ∷ ws) w.block ≡ Some w.wait = rw t refl in
     absurd (some_none w.wait (sym here ∙ none w.block))
-
-pub some_waits : (ws : List Waiting) (b : ℕ) (w : Wait) → wait_in ws b ≡ Some w → 0 < length ws
-some_waits [] b w e = absurd (some_none w (sym e))
-some_waits (x ∷ ws) b w e = omega arith

@@ -5,11 +5,11 @@ use Rattle.std.specs.Option.{option_map_or}
 use Rattle.block_layout.specs.Layout.{Shape}
 use Rattle.buf_pool.specs.Pool.{Buffer, empty_buffer}
 use Rattle.state_table.specs.declared.State.{State}
-use Rattle.word_visits.specs.node_words.dsm_messages.declared.messages.Need.{Need}
-use Rattle.word_visits.specs.node_words.home_directory.Table.{BlockFacts, LocalBlock, Miss, meets, want_row}
-use Rattle.word_visits.specs.node_words.miss_handlers.Effects.{block_facts}
-use Rattle.word_visits.specs.node_words.node_model.Node.{Node, Want}
-use Rattle.word_visits.specs.node_words.node_model.Turns.{block_at}
+use Rattle.node_words.specs.dsm_messages.declared.messages.Need.{Need}
+use Rattle.node_words.specs.home_directory.Table.{BlockFacts, LocalBlock, Miss, meets, want_row}
+use Rattle.node_words.specs.miss_handlers.Effects.{block_facts}
+use Rattle.node_words.specs.node_model.Node.{Node, Want}
+use Rattle.node_words.specs.node_model.Turns.{block_at}
 use Rattle.node_machine.specs.Wanted.{wanted}
 
 is_some_unless : (t : Bool) (m : Miss) → is_some (cond t None (Some m)) ≡ not t

@@ -2,26 +2,26 @@
 use Rattle.std.specs.Prelude.{◌≡◌, ℕ, ◌+◌, ◌*◌, ◌<◌, ◌≤◌, Bool, true, if◌then◌else◌, nat_lt, List, length}
 use Rattle.block_layout.specs.Layout.{Shape, blocks}
 use Rattle.run_limits.specs.Ranges.{IsBudget}
-use Rattle.word_visits.specs.node_words.exec_map.Contents.{program_of}
-use Rattle.word_visits.specs.node_words.home_directory.Home.{DirectoryEntry, first_entry}
-use Rattle.word_visits.specs.node_words.home_directory.Effects.{entry_at, entries_of, members}
-use Rattle.word_visits.specs.node_words.miss_handlers.Waits.{wait_of}
-use Rattle.word_visits.specs.node_words.jump_map.Image.{most_words}
-use Rattle.word_visits.specs.node_words.Address.{word_address}
-use Rattle.word_visits.specs.node_words.node_model.declared.NodeCounts.{NodeCounts}
-use Rattle.word_visits.specs.node_words.declared.exec_state.ExecState.{ExecState}
+use Rattle.node_words.specs.exec_map.Contents.{program_of}
+use Rattle.node_words.specs.home_directory.Home.{DirectoryEntry, first_entry}
+use Rattle.node_words.specs.home_directory.Effects.{entry_at, entries_of, members}
+use Rattle.node_words.specs.miss_handlers.Waits.{wait_of}
+use Rattle.node_words.specs.jump_map.Image.{most_words}
+use Rattle.node_words.specs.Address.{word_address}
+use Rattle.node_words.specs.node_model.declared.NodeCounts.{NodeCounts}
+use Rattle.node_words.specs.declared.exec_state.ExecState.{ExecState}
 use Rattle.node_machine.specs.declared.protocol_state.ProtocolState.{ProtocolState}
 use Rattle.node_machine.specs.declared.node_state.NodeState.{NodeState}
 use Rattle.node_machine.specs.declared.phase.Phase as kept
 use Rattle.node_machine.specs.declared.phase.Phase.TheVariants as kept_phase
-use Rattle.word_visits.specs.node_words.declared.serve.Following.{Following}
-use Rattle.word_visits.specs.node_words.declared.serve.Following.TheVariants as following_by
+use Rattle.node_words.specs.declared.serve.Following.{Following}
+use Rattle.node_words.specs.declared.serve.Following.TheVariants as following_by
 use Rattle.node_machine.specs.declared.states.LaneState.{LaneState}
 use Rattle.node_machine.specs.States as states
-use Rattle.word_visits.specs.node_words.node_model.Node.{Node, Work, ProcessorState, NodeMemory, Phase, Running, Resumed, Waiting, Ended, can_execute, counts_after, lane_resumed, tally_resumed, stop_or}
-use Rattle.word_visits.specs.node_words.node_model.Turns.{words_before}
-use Rattle.word_visits.specs.node_words.node_memory.Shelf.{local_of}
-use Rattle.word_visits.specs.node_words.Kept.{lane_of, resume_of}
+use Rattle.node_words.specs.node_model.Node.{Node, Work, ProcessorState, NodeMemory, Phase, Running, Resumed, Waiting, Ended, can_execute, counts_after, lane_resumed, tally_resumed, stop_or}
+use Rattle.node_words.specs.node_model.Turns.{words_before}
+use Rattle.node_words.specs.node_memory.Shelf.{local_of}
+use Rattle.node_words.specs.Kept.{lane_of, resume_of}
 
 abbrev pub phase_of : kept.Phase → Phase
 phase_of kept_phase.Running = Running

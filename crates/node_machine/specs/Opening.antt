@@ -3,14 +3,14 @@ use Rattle.std.specs.Prelude.{◌≡◌, ℕ, false, ◌*◌, ◌==◌, if◌the
 use Rattle.elf32_read.specs.Elf.{Elf}
 use Rattle.block_layout.specs.Layout.{Shape, home, lines, first_line}
 use Rattle.block_layout.specs.declared.ranges.Lines.{Lines}
-use Rattle.word_visits.specs.node_words.exec_map.Contents.{class_of_line, first_bytes, is_shared}
+use Rattle.node_words.specs.exec_map.Contents.{class_of_line, first_bytes, is_shared}
 use Rattle.state_table.specs.declared.TheConstants.{EXCLUSIVE, READ_ONLY}
 use Rattle.state_table.specs.declared.State.{State}
 use Rattle.state_table.specs.declared.State.TheVariants.{Exclusive, Invalid}
 use Rattle.state_table.specs.declared.classes.LineClass.{LineClass}
 use Rattle.state_table.specs.LineClasses.{class_byte}
-use Rattle.word_visits.specs.node_words.flag_memory.Flag.{flags}
-use Rattle.word_visits.specs.node_words.node_model.Node.{first_state}
+use Rattle.node_words.specs.flag_memory.Flag.{flags}
+use Rattle.node_words.specs.node_model.Node.{first_state}
 
 abbrev pub read_only_class : Lines → LineClass
 read_only_class r = record { first = r.first; lines = r.lines; byte = READ_ONLY }

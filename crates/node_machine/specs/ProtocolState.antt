@@ -1,19 +1,19 @@
 -- Helps the code alone: messages and wants, by what a node stores.
 use Rattle.std.specs.Prelude.{◌≡◌, ℕ, Bool, true, false, not, ◌&&◌, List, [], ◌∷◌, Option}
 use Rattle.block_layout.specs.Layout.{Shape}
-use Rattle.word_visits.specs.node_words.dsm_messages.declared.messages.Need.{Need}
-use Rattle.word_visits.specs.node_words.dsm_messages.declared.messages.Need.TheVariants as need
-use Rattle.word_visits.specs.node_words.dsm_messages.declared.messages.Message.{Message}
-use Rattle.word_visits.specs.node_words.dsm_messages.declared.messages.Message.TheVariants.{Read, Write, FwdRead, FwdWrite, Inval, Data, Grant, Ack, Done, Bye}
-use Rattle.word_visits.specs.node_words.dsm_messages.declared.messages.Post.{Post}
-use Rattle.word_visits.specs.node_words.home_directory.Effects.{HomeEffect, entries_of, ask_effect, done_effect}
-use Rattle.word_visits.specs.node_words.miss_handlers.Effects.{NodeEffect, HasEffect, message_effect}
+use Rattle.node_words.specs.dsm_messages.declared.messages.Need.{Need}
+use Rattle.node_words.specs.dsm_messages.declared.messages.Need.TheVariants as need
+use Rattle.node_words.specs.dsm_messages.declared.messages.Message.{Message}
+use Rattle.node_words.specs.dsm_messages.declared.messages.Message.TheVariants.{Read, Write, FwdRead, FwdWrite, Inval, Data, Grant, Ack, Done, Bye}
+use Rattle.node_words.specs.dsm_messages.declared.messages.Post.{Post}
+use Rattle.node_words.specs.home_directory.Effects.{HomeEffect, entries_of, ask_effect, done_effect}
+use Rattle.node_words.specs.miss_handlers.Effects.{NodeEffect, HasEffect, message_effect}
 use Rattle.rv32_program.specs.Program.{line_of}
 use Rattle.node_machine.specs.declared.protocol_state.ProtocolState.{ProtocolState}
-use Rattle.word_visits.specs.node_words.node_model.Node.{Node, NodeMemory, Want, is_mapped_state, is_readable_state, is_fixed_state, is_writable_state}
-use Rattle.word_visits.specs.node_words.node_model.Turns.{Turn}
-use Rattle.word_visits.specs.node_words.node_memory.Shelf.{Shelf}
-use Rattle.word_visits.specs.node_words.node_memory.Blocks.{blocks_at}
+use Rattle.node_words.specs.node_model.Node.{Node, NodeMemory, Want, is_mapped_state, is_readable_state, is_fixed_state, is_writable_state}
+use Rattle.node_words.specs.node_model.Turns.{Turn}
+use Rattle.node_words.specs.node_memory.Shelf.{Shelf}
+use Rattle.node_words.specs.node_memory.Blocks.{blocks_at}
 
 abbrev pub turn_by : Node → List Post → Option ℕ → Turn
 turn_by n sends printed = record { node = n; sends = sends; printed = printed }

@@ -1,10 +1,10 @@
 -- What a word does to memory, as far as its micro-op tells.
 use Rattle.std.specs.Prelude.{◌≡◌, ℕ, true}
 use Rattle.rv32_decode.specs.Widths.{width_of, is_aligned}
-use Rattle.word_visits.specs.node_words.rv32_step.Memory.{load_value}
-use Rattle.word_visits.specs.node_words.rv32_step.OneMemory.{Access}
-use Rattle.word_visits.specs.node_words.rv32_step.OneMemory as memory
-use Rattle.word_visits.specs.node_words.node_model.Node.{Node, Work, Nothing_counted, byte_at, word_outcome}
+use Rattle.node_words.specs.rv32_step.Memory.{load_value}
+use Rattle.node_words.specs.rv32_step.OneMemory.{Access}
+use Rattle.node_words.specs.rv32_step.OneMemory as memory
+use Rattle.node_words.specs.node_model.Node.{Node, Work, Nothing_counted, byte_at, word_outcome}
 use Rattle.node_machine.specs.declared.touch.Touch.{Touch}
 use Rattle.node_machine.specs.declared.touch.Touch.TheVariants.{Nothing, Reads, Writes}
 

@@ -1,6 +1,6 @@
 -- Helps the code alone: what takes a node's words back.
 use Rattle.std.specs.Prelude.{◌≡◌}
-use Rattle.word_visits.specs.node_words.UndoLogs.{TakesBack}
+use Rattle.node_words.specs.UndoLogs.{TakesBack}
 use Rattle.node_machine.specs.declared.node_state.NodeState.{NodeState}
 use Rattle.node_machine.specs.declared.undo_log.NodeUndoLog.{NodeUndoLog}
 use Rattle.node_machine.specs.NodeState.{IsNode}

@@ -5,11 +5,11 @@ use Rattle.block_layout.specs.Layout.{Shape, block_of}
 use Rattle.buf_pool.specs.Pool.{empty_buffer}
 use Rattle.rv32_program.specs.Program.{line_of}
 use Rattle.state_table.specs.declared.State.{State}
-use Rattle.word_visits.specs.node_words.dsm_messages.declared.messages.Need.{Need}
-use Rattle.word_visits.specs.node_words.home_directory.Table.{want_row}
-use Rattle.word_visits.specs.node_words.miss_handlers.Effects.{block_facts}
-use Rattle.word_visits.specs.node_words.node_model.Node.{Work, Node, Want, word_outcome}
-use Rattle.word_visits.specs.node_words.node_model.Turns.{Turn, block_at, want_in, wants_of, each_block_once, after_word}
+use Rattle.node_words.specs.dsm_messages.declared.messages.Need.{Need}
+use Rattle.node_words.specs.home_directory.Table.{want_row}
+use Rattle.node_words.specs.miss_handlers.Effects.{block_facts}
+use Rattle.node_words.specs.node_model.Node.{Work, Node, Want, word_outcome}
+use Rattle.node_words.specs.node_model.Turns.{Turn, block_at, want_in, wants_of, each_block_once, after_word}
 use Rattle.node_machine.specs.declared.wanted.WantedBlocks.{WantedBlocks}
 use Rattle.node_machine.specs.declared.wanted.Wanted.{Wanted}
 

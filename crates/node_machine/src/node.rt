@@ -1,56 +1,52 @@
 //! A node: its processor, what words see of it, and its part of the protocol.
 
-ghost use Rattle.std.specs.Prelude.{◌≡◌, ◌+◌, ◌^◌, ◌<◌, ◌==◌, ◌≤◌, true, false, None, IfOk};
+ghost use Rattle.std.specs.Prelude.{◌≡◌, ◌+◌, ◌^◌, ◌<◌, ◌==◌, ◌≤◌, true, false, None, IfOk, List};
 ghost use Rattle.std.specs.Prelude.{OnOk, if◌then◌else◌, length, option_and_then, is_some};
 ghost use Rattle.std.specs.Prelude.{MatchOption, Some, IfSome};
 ghost use Rattle.block_layout.specs.Layout.{blocks};
 ghost use Rattle.rv32_decode.specs.Widths.{width_of, is_aligned};
-ghost use Rattle.word_visits.specs.node_words.rv32_step.Registers.{registers_of};
-ghost use Rattle.word_visits.specs.node_words.rv32_step.Memory.{load_value};
-ghost use Rattle.word_visits.specs.node_words.jump_map.declared.image.ImageWord.{ImageWord};
-ghost use Rattle.word_visits.specs.node_words.exec_map.Contents.{program_of};
-ghost use Rattle.word_visits.specs.node_words.jump_map.Maps.{fetch};
-ghost use Rattle.word_visits.specs.node_words.home_directory.Effects.{members};
-ghost use Rattle.word_visits.specs.node_words.home_directory.Home.{count_of};
-ghost use Rattle.word_visits.specs.node_words.node_model.Node as model;
-ghost use Rattle.word_visits.specs.node_words.node_model.Turns as turns;
+ghost use Rattle.node_words.specs.rv32_step.Registers.{registers_of};
+ghost use Rattle.node_words.specs.rv32_step.Memory.{load_value};
+ghost use Rattle.node_words.specs.jump_map.declared.image.ImageWord.{ImageWord};
+ghost use Rattle.node_words.specs.exec_map.Contents.{program_of};
+ghost use Rattle.node_words.specs.jump_map.Image.{Cell};
+ghost use Rattle.node_words.specs.jump_map.Maps.{fetch};
+ghost use Rattle.node_words.specs.home_directory.Effects.{members};
+ghost use Rattle.node_words.specs.home_directory.Home.{count_of};
+ghost use Rattle.node_words.specs.node_model.Node as model;
+ghost use Rattle.node_words.specs.node_model.Turns as turns;
 ghost use Rattle.node_machine.specs.Wanted.{wanted_in, wants_of_word};
 ghost use Rattle.node_machine.specs.NodeState.{node_of, work_of, HasRoom};
 ghost use Rattle.node_machine.specs.Runs.{HasExecuted, GoesOnBy};
 ghost use Rattle.node_machine.specs.Touch.{IsTouch};
 ghost use Rattle.node_machine.specs.UndoLogs.{TakesNodeBack};
-ghost use Rattle.word_visits.specs.Visits.{AreCounted};
-ghost use Rattle.word_visits.specs.VisitTables.{AreVisitsIn, StayVisits, visits_of};
-ghost use Rattle.word_visits.specs.Tallies.{AreTallied, steps_of};
-ghost use Rattle.word_visits.specs.TallyTables.{AreTalliesIn, tallies_of};
 ghost use Rattle.node_machine.specs.declared.node_state.NodeState.{NodeState as Stored};
 
-use crate::node_state::{NodeState, Turn, WordTurn};
+use crate::node_state::{BareTurn, NodeState, WordTurn};
 use crate::opening::first_local;
 use crate::phase::Phase;
 use crate::protocol_state::ProtocolState;
 use crate::snapshot::Snapshot;
 use crate::states::{LaneState, SharedState};
 use crate::touch::Touch;
-use crate::undo_log::{NodeUndoLog, WordsMade};
+use crate::undo_log::NodeUndoLog;
 use block_layout::{Block, Layout, layout_law};
 use buf_pool::Pool;
+use node_words::byte_range::Window;
+use node_words::dsm_messages::{Sends, Wire};
+use node_words::exec_map::{End, Program};
+use node_words::home_directory::{Busy, Directory, Wait};
+use node_words::jump_map::{Image, ImageWord};
+use node_words::miss_handlers::{BUFFER_BYTES, WAITS, Waits};
+use node_words::node_model::{Entry, NodeCounts, OutByte, Standing};
+use node_words::runtime_words::RtWord;
+use node_words::rv32_step::Registers;
+use node_words::{ExecState, PlainLoop, ProcessorState, StoreLog, WordLoop, address_of, index_of};
 use run_limits::Budget;
 use rv32_decode::LoadKind;
 use state_table::State;
 use std::alloc::{AllocError, Global};
 use std::marker::Model;
-use word_visits::node_words::byte_range::Window;
-use word_visits::node_words::dsm_messages::{Sends, Wire};
-use word_visits::node_words::exec_map::{End, Program};
-use word_visits::node_words::home_directory::{Busy, Directory, Wait};
-use word_visits::node_words::jump_map::{Image, ImageWord};
-use word_visits::node_words::miss_handlers::{BUFFER_BYTES, WAITS, Waits};
-use word_visits::node_words::node_model::{Entry, NodeCounts, OutByte, Standing};
-use word_visits::node_words::runtime_words::RtWord;
-use word_visits::node_words::rv32_step::Registers;
-use word_visits::node_words::{ExecState, ProcessorState, StoreLog, address_of, index_of};
-use word_visits::{Tallies, Visits};
 
 /// A node that runs rewritten code of a program.
 #[derive(Drop)]
@@ -309,8 +305,8 @@ impl<'a> Node<'a> {
         self.inner.shared.make_room()
     }
 
-    /// Executes one word, and leaves what it sends, in order.
-    pub fn exec(&mut self, sends: &mut Sends) -> Turn
+    /// Does what `exec` does, and leaves in a list what is sent, in order.
+    pub fn exec_into(&mut self, sends: &mut Sends) -> BareTurn
         requires may { model.can_execute (node_of self.old).phase ≡ true }
         requires room { HasRoom self.old }
         requires stamp { (node_of self.old).stamp < 2 ^ 56 }
@@ -363,7 +359,7 @@ impl<'a> Node<'a> {
     }
 
     /// Executes words by their micro-ops, as long as those serve them and the undo log has room, at
-    /// most so many, and fewer than the budget has left; it gives how many. They print nothing and
+    /// most `most`, and fewer than the budget has left; it gives how many. They print nothing and
     /// send nothing, and the undo log takes them back.
     pub fn run_undoable(&mut self, most: u32, undo_log: &mut NodeUndoLog) -> u64
         requires may { 1 ≤ most → model.can_execute (node_of self.old).phase ≡ true }
@@ -375,34 +371,32 @@ impl<'a> Node<'a> {
         ensures back { TakesNodeBack undo_log.new self.new self.old }
         ensures work { work_of self.new ≡ work_of self.old }
     {
-        self.inner.run_undoable(most, undo_log)
+        self.inner.run_undoable_by(&mut PlainLoop, most, undo_log)
     }
 
-    /// Executes words as `run_undoable` does, as long as they are tallied, and gives how many there
-    /// are, and how many of them count.
-    pub fn run_counting(
+    /// Executes words by a loop, as long as they print nothing and send nothing and the undo log has
+    /// room: at most so many, and fewer than the budget has left; it gives how many. The undo log
+    /// takes them back.
+    pub fn run_undoable_by<L: WordLoop>(
         &mut self,
+        by: &mut L,
         most: u32,
-        tallies: &Tallies,
         undo_log: &mut NodeUndoLog,
-    ) -> WordsMade
+    ) -> u64
         requires may { 1 ≤ most → model.can_execute (node_of self.old).phase ≡ true }
         requires stamp { (node_of self.old).stamp < 2 ^ 56 }
-        requires table { AreTalliesIn (work_of self.old).image tallies.now }
-        ensures goes_on { GoesOnBy (work_of self.old) result.words (node_of self.old)
-            (node_of self.new) }
-        ensures tallied { AreTallied (work_of self.old) result.words (node_of self.old)
-            (tallies_of tallies.now) }
-        ensures steps { result.steps ≡ steps_of (work_of self.old) result.words (node_of self.old)
-            (tallies_of tallies.now) }
+        requires goes_over { L.goes_over (work_of self.old).image by.old }
+        ensures goes_on { GoesOnBy (work_of self.old) result (node_of self.old) (node_of self.new) }
+        ensures learns { L.learns (work_of self.old) result (node_of self.old) by.old by.new }
+        ensures stays { (image : List Cell) → L.goes_over image by.old
+            → L.goes_over image by.new }
         ensures may { model.can_execute (node_of self.old).phase ≡ true
             → model.can_execute (node_of self.new).phase ≡ true }
-        ensures most { result.words ≤ most }
-        ensures part { result.steps ≤ result.words }
+        ensures most { result ≤ most }
         ensures back { TakesNodeBack undo_log.new self.new self.old }
         ensures work { work_of self.new ≡ work_of self.old }
     {
-        self.inner.run_counting(most, tallies, undo_log)
+        self.inner.run_undoable_by(by, most, undo_log)
     }
 
     /// Takes back the words of an undo log.
@@ -416,7 +410,7 @@ impl<'a> Node<'a> {
     }
 
     /// Executes words, most of them by their micro-ops, as long as they print nothing and send
-    /// nothing: at most so many, fewer than the budget has left, and fewer than there are stamps
+    /// nothing: at most `most`, fewer than the budget has left, and fewer than there are stamps
     /// left. It gives how many.
     pub fn run_silent(&mut self, most: u64) -> u64
         requires may { model.can_execute (node_of self.old).phase ≡ true }
@@ -427,31 +421,30 @@ impl<'a> Node<'a> {
         ensures stamp { (node_of self.new).stamp < 2 ^ 56 }
         ensures work { work_of self.new ≡ work_of self.old }
     {
-        self.inner.run_silent(most)
+        self.inner.run_by(&mut PlainLoop, most)
     }
 
-    /// Executes words one by one, as long as they print nothing, send nothing and count among the
-    /// visits: at most so many, fewer than the budget has left, and fewer than there are stamps
-    /// left. It gives how many.
-    pub fn run_visiting(&mut self, most: u64, visits: &mut Visits) -> u64
+    /// Executes words by a loop, as long as they print nothing and send nothing: at most `most`,
+    /// fewer than the budget has left, and fewer than there are stamps left. It gives how many.
+    pub fn run_by<L: WordLoop>(&mut self, by: &mut L, most: u64) -> u64
         requires may { model.can_execute (node_of self.old).phase ≡ true }
         requires stamp { (node_of self.old).stamp < 2 ^ 56 }
-        requires table { AreVisitsIn (work_of self.old).image visits.old }
+        requires goes_over { L.goes_over (work_of self.old).image by.old }
         ensures goes_on { GoesOnBy (work_of self.old) result (node_of self.old) (node_of self.new) }
-        ensures visits { AreCounted (work_of self.old) result (node_of self.old)
-            (visits_of visits.old) (visits_of visits.new) }
-        ensures table { StayVisits visits.old visits.new }
+        ensures learns { L.learns (work_of self.old) result (node_of self.old) by.old by.new }
+        ensures stays { (image : List Cell) → L.goes_over image by.old
+            → L.goes_over image by.new }
         ensures may { model.can_execute (node_of self.new).phase ≡ true }
         ensures most { result ≤ most }
         ensures stamp { (node_of self.new).stamp < 2 ^ 56 }
         ensures work { work_of self.new ≡ work_of self.old }
     {
-        self.inner.run_visiting(most, visits)
+        self.inner.run_by(by, most)
     }
 
-    /// Executes words, of which those before the last print nothing and send nothing: as many as
-    /// `run_silent` does, and one more. It leaves what that sends, in order.
-    pub fn run_until_send(&mut self, sends: &mut Sends) -> Turn
+    /// Executes words: as many as `run_silent` does, which print nothing and send nothing, and one
+    /// more. It leaves what that sends, in order.
+    pub fn run_until_send(&mut self, sends: &mut Sends) -> BareTurn
         requires may { model.can_execute (node_of self.old).phase ≡ true }
         requires room { HasRoom self.old }
         requires stamp { (node_of self.old).stamp < 2 ^ 56 }
@@ -479,8 +472,8 @@ impl<'a> Node<'a> {
         self.inner.stirs()
     }
 
-    /// Takes a message from a node, and leaves what it sends, in order.
-    pub fn take(&mut self, from: u8, wire: Wire, sends: &mut Sends) -> Turn
+    /// Does what `take` does, and leaves in a list what is sent, in order.
+    pub fn take_into(&mut self, from: u8, wire: Wire, sends: &mut Sends) -> BareTurn
         requires room { HasRoom self.old }
         requires stamp { (node_of self.old).stamp < 2 ^ 56 }
         requires wire { wire.stamp < 2 ^ 56 }
@@ -528,7 +521,7 @@ pub fn ended_standing(byes: &[bool; 256], nodes: u8) -> Standing
     }
 }
 
-/// How many of the first so many are true.
+/// How many of the first `nodes` are true.
 fn count(flags: &[bool; 256], nodes: u8) -> u8
     requires { nodes ≤ 16 }
     ensures { result ≡ count_of (members flags.now) nodes }

@@ -2,13 +2,12 @@
 //! and kept by the type of the node above it.
 
 ghost use Rattle.std.specs.Prelude.{◌≡◌, ◌+◌, ◌^◌, ◌<◌, ◌≤◌, ◌++◌, ◌⊎◌};
-ghost use Rattle.std.specs.Prelude.{if◌then◌else◌, ℕ, [], true, false, None, Option, length};
-ghost use Rattle.word_visits.specs.node_words.node_model.Node as model;
-ghost use Rattle.word_visits.specs.node_words.node_model.Turns as turns;
-ghost use Rattle.word_visits.specs.node_words.node_memory.Shelf.{ground_of, local_of};
-ghost use Rattle.word_visits.specs.node_words.Kept.{wants_by};
-ghost use Rattle.word_visits.specs.Visits.{AreCounted};
-ghost use Rattle.word_visits.specs.VisitTables.{AreVisitsIn, StayVisits, visits_of};
+ghost use Rattle.std.specs.Prelude.{if◌then◌else◌, ℕ, List, [], true, false, None, Option, length};
+ghost use Rattle.node_words.specs.node_model.Node as model;
+ghost use Rattle.node_words.specs.node_model.Turns as turns;
+ghost use Rattle.node_words.specs.node_memory.Shelf.{ground_of, local_of};
+ghost use Rattle.node_words.specs.Kept.{wants_by};
+ghost use Rattle.node_words.specs.jump_map.Image.{Cell};
 ghost use Rattle.node_machine.specs.Wanted.{wants_along, wanted_in, wants_of_word};
 ghost use Rattle.node_machine.specs.NodeState.{work_of, node_of, layout_of, with_parts, phase_of};
 ghost use Rattle.node_machine.specs.NodeState.{HasRoom, IsNode, IsProtocolState, AreCountsBelow};
@@ -20,14 +19,13 @@ use crate::phase::{Phase, phase_on};
 use crate::protocol_state::ProtocolState;
 use crate::states::{LaneState, SharedState};
 use crate::wanted::WantedBlocks;
+use node_words::dsm_messages::{Message, Post, Sends, Wire};
+use node_words::{ExecState, Following, PlainLoop, WordLoop};
 use run_limits::STAMPS;
-use word_visits::node_words::dsm_messages::{Message, Post, Sends, Wire};
-use word_visits::node_words::{ExecState, Following};
-use word_visits::{Visits, run_visiting};
 
 /// What a node did in one event, but for what it sent.
 #[derive(Drop)]
-pub struct Turn {
+pub struct BareTurn {
     /// The stamp of the event.
     pub stamp: u64,
     /// The byte that it printed.
@@ -37,7 +35,7 @@ pub struct Turn {
 /// What a word did by the path that serves every word, but for what it sent, and what it wants.
 #[derive(Drop)]
 pub struct WordTurn {
-    pub turn: Turn,
+    pub turn: BareTurn,
     pub wants: Option<WantedBlocks>,
 }
 
@@ -50,7 +48,7 @@ pub struct NodeState<'a> {
 
 impl<'a> NodeState<'a> {
     /// Executes one word, and leaves what it sends, in order.
-    pub fn exec(&mut self, sends: &mut Sends) -> Turn
+    pub fn exec(&mut self, sends: &mut Sends) -> BareTurn
         requires node { IsNode self.old }
         requires may { model.can_execute (node_of self.old).phase ≡ true }
         requires room { HasRoom self.old }
@@ -63,7 +61,7 @@ impl<'a> NodeState<'a> {
     {
         sends.clear();
         if self.exec_silent() {
-            return Turn {
+            return BareTurn {
                 stamp: self.shared.stamp,
                 output: None,
             };
@@ -120,14 +118,17 @@ impl<'a> NodeState<'a> {
         }
     }
 
-    /// Executes words, most of them by their micro-ops, as long as they print nothing and send
-    /// nothing: at most so many, fewer than the budget has left, and fewer than there are stamps
-    /// left. It gives how many.
-    pub fn run_silent(&mut self, most: u64) -> u64
+    /// Executes words by a loop, as long as they print nothing and send nothing: at most `most`,
+    /// fewer than the budget has left, and fewer than there are stamps left. It gives how many.
+    pub fn run_by<L: WordLoop>(&mut self, by: &mut L, most: u64) -> u64
         requires node { IsNode self.old }
         requires may { model.can_execute (node_of self.old).phase ≡ true }
         requires stamp { self.old.shared.stamp < 2 ^ 56 }
+        requires goes_over { L.goes_over (work_of self.old).image by.old }
         ensures goes_on { GoesOnBy (work_of self.old) result (node_of self.old) (node_of self.new) }
+        ensures learns { L.learns (work_of self.old) result (node_of self.old) by.old by.new }
+        ensures stays { (image : List Cell) → L.goes_over image by.old
+            → L.goes_over image by.new }
         ensures may { model.can_execute (node_of self.new).phase ≡ true }
         ensures most { result ≤ most }
         ensures stamp { self.new.shared.stamp < 2 ^ 56 }
@@ -139,10 +140,8 @@ impl<'a> NodeState<'a> {
             self.lane.budget.number() - self.lane.executed - 1,
             STAMPS - self.shared.stamp - 1,
         );
-        let stretch = self
-            .shared
-            .body
-            .run(self.lane.image, self.lane.at, most_words(most, left));
+        let most = most_words(most, left);
+        let stretch = by.run(&mut self.shared.body, self.lane.image, self.lane.at, most);
         self.lane.at = stretch.at;
         self.lane.executed += stretch.words;
         self.shared.stamp += stretch.words;
@@ -150,45 +149,9 @@ impl<'a> NodeState<'a> {
         stretch.words
     }
 
-    /// Executes words, as long as they print nothing, send nothing and count among the visits: at
-    /// most so many, fewer than the budget has left, and fewer than there are stamps
-    /// left. It gives how many.
-    pub fn run_visiting(&mut self, most: u64, visits: &mut Visits) -> u64
-        requires node { IsNode self.old }
-        requires may { model.can_execute (node_of self.old).phase ≡ true }
-        requires stamp { self.old.shared.stamp < 2 ^ 56 }
-        requires table { AreVisitsIn (work_of self.old).image visits.old }
-        ensures goes_on { GoesOnBy (work_of self.old) result (node_of self.old) (node_of self.new) }
-        ensures visits { AreCounted (work_of self.old) result (node_of self.old)
-            (visits_of visits.old) (visits_of visits.new) }
-        ensures table { StayVisits visits.old visits.new }
-        ensures may { model.can_execute (node_of self.new).phase ≡ true }
-        ensures most { result ≤ most }
-        ensures stamp { self.new.shared.stamp < 2 ^ 56 }
-        ensures work { work_of self.new ≡ work_of self.old }
-        ensures node { IsNode self.new }
-    {
-        let left = most_words(
-            self.lane.budget.number() - self.lane.executed - 1,
-            STAMPS - self.shared.stamp - 1,
-        );
-        let stretch = run_visiting(
-            &mut self.shared.body,
-            self.lane.image,
-            self.lane.at,
-            most_words(most, left),
-            visits,
-        );
-        self.lane.at = stretch.at;
-        self.lane.executed += stretch.words;
-        self.shared.stamp += stretch.words;
-        self.lane.phase = phase_on(self.lane.phase, stretch.words);
-        stretch.words
-    }
-
-    /// Executes words, of which those before the last print nothing and send nothing: as many as
-    /// `run_silent` does, and one more. It leaves what that sends, in order.
-    pub fn run_until_send(&mut self, sends: &mut Sends) -> Turn
+    /// Executes words: as many as `run_silent` does, which print nothing and send nothing, and one
+    /// more. It leaves what that sends, in order.
+    pub fn run_until_send(&mut self, sends: &mut Sends) -> BareTurn
         requires node { IsNode self.old }
         requires may { model.can_execute (node_of self.old).phase ≡ true }
         requires room { HasRoom self.old }
@@ -200,12 +163,12 @@ impl<'a> NodeState<'a> {
         ensures node { IsNode self.new }
     {
         sends.clear();
-        self.run_silent(u64::MAX);
+        self.run_by(&mut PlainLoop, u64::MAX);
         self.serve_word(sends)
     }
 
     /// Takes a message from a node, and leaves what it sends, in order.
-    pub fn take(&mut self, from: u8, wire: Wire, sends: &mut Sends) -> Turn
+    pub fn take(&mut self, from: u8, wire: Wire, sends: &mut Sends) -> BareTurn
         requires node { IsNode self.old }
         requires room { HasRoom self.old }
         requires stamp { self.old.shared.stamp < 2 ^ 56 }
@@ -231,7 +194,7 @@ impl<'a> NodeState<'a> {
         let pending = shared.protocol.waits.pending();
         self.lane.resume(&mut self.shared.body, pending);
         if was_ended {
-            return Turn {
+            return BareTurn {
                 stamp: self.shared.stamp,
                 output: None,
             };
@@ -240,7 +203,7 @@ impl<'a> NodeState<'a> {
     }
 
     /// Executes one word by the path that serves every word.
-    fn serve_word(&mut self, sends: &mut Sends) -> Turn
+    fn serve_word(&mut self, sends: &mut Sends) -> BareTurn
         requires nothing { sends.old.items ≡ [] }
         requires node { IsNode self.old }
         requires may { model.can_execute (node_of self.old).phase ≡ true }
@@ -288,7 +251,7 @@ impl<'a> NodeState<'a> {
 
     /// The turn that ends with a node so, once this was sent and printed: a node that has just
     /// ended says so to all nodes.
-    fn turn(&self, sends: &mut Sends, output: Option<u8>) -> Turn
+    fn turn(&self, sends: &mut Sends, output: Option<u8>) -> BareTurn
         requires few { turns.is_ended (phase_of self.now.lane.phase) ≡ true
             → length sends.old.items ≤ 2 }
         ensures turn { turn_by (node_of self.now) sends.new.items result.output
@@ -298,7 +261,7 @@ impl<'a> NodeState<'a> {
         ensures stamp { result.stamp ≡ self.now.shared.stamp }
     {
         add_byes(sends, self.shared.body.local.nodes(), self.lane.has_ended());
-        Turn {
+        BareTurn {
             stamp: self.shared.stamp,
             output,
         }
@@ -381,7 +344,7 @@ fn ask(
     }
 }
 
-/// Sends a Bye to every node, behind what is sent before, where the node has ended.
+/// Sends a Bye to every node, after what is sent before, where the node has ended.
 pub fn add_byes(sends: &mut Sends, nodes: u8, ended: bool)
     requires few { ended ≡ true → length sends.old.items ≤ 2 }
     requires nodes { nodes ≤ 16 }

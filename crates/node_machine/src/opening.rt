@@ -1,24 +1,22 @@
 //! What words see of their node at the start.
 
 ghost use Rattle.std.specs.Prelude.{◌≡◌, ◌*◌, ◌<◌, ℕ, IfOk, OnOk};
-ghost use Rattle.word_visits.specs.node_words.exec_map.Contents.{program_of};
+ghost use Rattle.node_words.specs.exec_map.Contents.{program_of};
 ghost use Rattle.block_layout.specs.Layout.{blocks};
 ghost use Rattle.block_layout.specs.Update.{changed};
 ghost use Rattle.state_table.specs.States.{state_of};
-ghost use Rattle.word_visits.specs.node_words.flag_memory.Copy.{bytes_of};
-ghost use Rattle.word_visits.specs.node_words.node_model.Node as model;
-ghost use Rattle.word_visits.specs.node_words.node_memory.Shelf.{local_of};
+ghost use Rattle.node_words.specs.flag_memory.Copy.{bytes_of};
+ghost use Rattle.node_words.specs.node_model.Node as model;
+ghost use Rattle.node_words.specs.node_memory.Shelf.{local_of};
 ghost use Rattle.node_machine.specs.Opening.{AreFixedClasses, classes_of, opening_state};
 ghost use Rattle.node_machine.specs.Opening.{opening_bytes};
 
 use block_layout::{Block, Layout, layout_law};
+use node_words::NodeMemory;
+use node_words::exec_map::{Lines, PRIVATE_FIRST, Program, first_bytes_law, read_only_memory};
+use node_words::flag_memory::{Copy32, FirstBytes, copy_law};
 use state_table::{EXCLUSIVE, LineClass, LineClasses, READ_ONLY, State, States};
 use std::alloc::{AllocError, Global};
-use word_visits::node_words::NodeMemory;
-use word_visits::node_words::exec_map::{
-    Lines, PRIVATE_FIRST, Program, first_bytes_law, read_only_memory,
-};
-use word_visits::node_words::flag_memory::{Copy32, FirstBytes, copy_law};
 
 /// What words see of node `me` at the start.
 pub fn first_local<'a>(

@@ -1,15 +1,15 @@
 //! Whether a processor runs, waits or has ended.
 
 ghost use Rattle.std.specs.Prelude.{◌≡◌};
-ghost use Rattle.word_visits.specs.node_words.node_model.Node as model;
-ghost use Rattle.word_visits.specs.node_words.node_model.Turns as turns;
-ghost use Rattle.word_visits.specs.node_words.Kept.{phase_by};
-ghost use Rattle.word_visits.specs.node_words.GoingOn.{phase_on};
+ghost use Rattle.node_words.specs.node_model.Node as model;
+ghost use Rattle.node_words.specs.node_model.Turns as turns;
+ghost use Rattle.node_words.specs.Kept.{phase_by};
+ghost use Rattle.node_words.specs.GoingOn.{phase_on};
 ghost use Rattle.node_machine.specs.NodeState.{phase_of};
 
+use node_words::exec_map::End;
+use node_words::{Following, Resume};
 use run_limits::Budget;
-use word_visits::node_words::exec_map::End;
-use word_visits::node_words::{Following, Resume};
 
 /// Whether a processor runs, has just got what it waited for, waits for blocks, or has ended.
 #[derive(Clone, Copy, PartialEq, Eq)]
@@ -20,15 +20,15 @@ pub enum Phase {
     Ended(End),
 }
 
-/// The phase of a node that may execute words, after so many that go on.
+/// The phase of a node that may execute words, after `words` that go on.
 pub fn phase_on(phase: Phase, words: u64) -> Phase
     ensures { phase_of result ≡ phase_on (phase_of phase) words }
 {
     if words == 0 { phase } else { Phase::Running }
 }
 
-/// The phase of a node that has executed so many words and has nothing pending: the one given, or
-/// stopped by its budget.
+/// The phase of a node that has executed `executed` words and has nothing pending: the one given,
+/// or stopped by its budget.
 pub fn stop_or(budget: Budget, executed: u64, phase: Phase) -> Phase
     ensures { phase_of result ≡ model.stop_or budget executed (phase_of phase) }
 {

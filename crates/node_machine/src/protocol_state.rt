@@ -5,15 +5,15 @@ ghost use Rattle.std.specs.Prelude.{◌++◌, None, Some, true, false, List, Opt
 ghost use Rattle.std.specs.Option.{option_to_list};
 ghost use Rattle.state_table.specs.States.{state_of};
 ghost use Rattle.block_layout.specs.Layout.{blocks, block_of};
-ghost use Rattle.word_visits.specs.node_words.home_directory.Table.{meets};
+ghost use Rattle.node_words.specs.home_directory.Table.{meets};
 ghost use Rattle.rv32_program.specs.Program.{line_of};
-ghost use Rattle.word_visits.specs.node_words.dsm_messages.declared.messages.Post.{Post};
-ghost use Rattle.word_visits.specs.node_words.miss_handlers.Waits.{wait_of};
-ghost use Rattle.word_visits.specs.node_words.miss_handlers.Rows.{row_of};
-ghost use Rattle.word_visits.specs.node_words.node_model.Node as model;
-ghost use Rattle.word_visits.specs.node_words.node_model.Turns as turns;
-ghost use Rattle.word_visits.specs.node_words.node_memory.Shelf.{ground_of, local_of, want_of};
-ghost use Rattle.word_visits.specs.node_words.node_memory.Shelf.{all_wants, others_of};
+ghost use Rattle.node_words.specs.dsm_messages.declared.messages.Post.{Post};
+ghost use Rattle.node_words.specs.miss_handlers.Waits.{wait_of};
+ghost use Rattle.node_words.specs.miss_handlers.Rows.{row_of};
+ghost use Rattle.node_words.specs.node_model.Node as model;
+ghost use Rattle.node_words.specs.node_model.Turns as turns;
+ghost use Rattle.node_words.specs.node_memory.Shelf.{ground_of, local_of, want_of};
+ghost use Rattle.node_words.specs.node_memory.Shelf.{all_wants, others_of};
 ghost use Rattle.node_machine.specs.NodeState.{layout_of, with_parts, IsProtocolState};
 ghost use Rattle.node_machine.specs.NodeState.{AreCountsBelow};
 ghost use Rattle.node_machine.specs.ProtocolState.{HasRouted, turn_by, is_unmet, is_order};
@@ -22,12 +22,12 @@ ghost use Rattle.node_machine.specs.Wanted.{wants_along, wanted_list};
 use crate::wanted::{WantedBlocks, wanted_of};
 use block_layout::{Block, layout_law};
 use buf_pool::Pool;
+use node_words::dsm_messages::{Message, Need, Post, Sends, push_some};
+use node_words::home_directory::Directory;
+use node_words::miss_handlers::Waits;
+use node_words::node_model::NodeCounts;
+use node_words::{ExecState, NodeMemory, Want, Wants};
 use state_table::State;
-use word_visits::node_words::dsm_messages::{Message, Need, Post, Sends, push_some};
-use word_visits::node_words::home_directory::Directory;
-use word_visits::node_words::miss_handlers::Waits;
-use word_visits::node_words::node_model::NodeCounts;
-use word_visits::node_words::{ExecState, NodeMemory, Want, Wants};
 
 /// A node's part of the protocol: the entries of the blocks whose home it is, its waits, and the
 /// buffers of its own.
@@ -207,14 +207,15 @@ impl ProtocolState {
     {
         match message {
             Message::Read { block, buf } => {
-                self.directory.ask(from, block, Need::Read, buf, sends);
+                self.directory.ask_into(from, block, Need::Read, buf, sends);
             }
             Message::Write { block, buf } => {
-                self.directory.ask(from, block, Need::Write, buf, sends);
+                self.directory
+                    .ask_into(from, block, Need::Write, buf, sends);
             }
-            Message::Done { block } => self.directory.done(from, block, sends),
+            Message::Done { block } => self.directory.done_into(from, block, sends),
             message => {
-                let post = local.on(from, message, &mut self.waits, &mut self.pool);
+                let post = local.reply(from, message, &mut self.waits, &mut self.pool);
                 push_some(sends, post);
             }
         }
@@ -318,7 +319,7 @@ fn is_same_block(local: &NodeMemory<'_>, first: Want, other: Want) -> bool
     }
 }
 
-/// Sends two messages, of which each may be missing, where nothing is sent before them.
+/// Sends two messages, where nothing is sent before them. Each may be missing.
 pub fn put(sends: &mut Sends, first: Option<Post>, other: Option<Post>)
     requires nothing { sends.old.items ≡ [] }
     ensures value { sends.new.items ≡ option_to_list first ++ option_to_list other }

@@ -1,15 +1,15 @@
 //! Where a node was, to see whether it comes round in a loop that changes nothing.
 
 ghost use Rattle.std.specs.Prelude.{◌≡◌};
-ghost use Rattle.word_visits.specs.node_words.micro_op.Micro.{sum_address};
+ghost use Rattle.node_words.specs.micro_op.Micro.{sum_address};
 ghost use Rattle.node_machine.specs.NodeState.{node_of};
 
 use crate::node_state::NodeState;
+use node_words::jump_map::ImageWord;
+use node_words::micro_op::{MicroKind, MicroOp};
+use node_words::runtime_words::RtWord;
 use rv32_decode::{Instr, Reg};
 use rv32_program::addresses::SPILLS;
-use word_visits::node_words::jump_map::ImageWord;
-use word_visits::node_words::micro_op::{MicroKind, MicroOp};
-use word_visits::node_words::runtime_words::RtWord;
 
 /// Where a node was: the index of its next word, what its registers held, and what the words held
 /// in which sequences keep registers.

@@ -3,24 +3,24 @@
 ghost use Rattle.std.specs.Prelude.{◌≡◌, ◌+◌, ◌-◌, ◌^◌, ◌<◌, ◌++◌, ◌∷◌, ◌==◌, [], OnOk};
 ghost use Rattle.std.specs.Prelude.{length, true};
 ghost use Rattle.std.specs.Vec.{vec_capacity};
-ghost use Rattle.word_visits.specs.node_words.jump_map.Maps.{fetch};
-ghost use Rattle.word_visits.specs.node_words.node_model.Node as model;
-ghost use Rattle.word_visits.specs.node_words.node_model.Turns as turns;
-ghost use Rattle.word_visits.specs.node_words.Address.{word_address};
-ghost use Rattle.word_visits.specs.node_words.node_memory.Shelf.{local_of};
-ghost use Rattle.word_visits.specs.node_words.Kept.{lane_of, phase_by};
+ghost use Rattle.node_words.specs.jump_map.Maps.{fetch};
+ghost use Rattle.node_words.specs.node_model.Node as model;
+ghost use Rattle.node_words.specs.node_model.Turns as turns;
+ghost use Rattle.node_words.specs.Address.{word_address};
+ghost use Rattle.node_words.specs.node_memory.Shelf.{local_of};
+ghost use Rattle.node_words.specs.Kept.{lane_of, phase_by};
 ghost use Rattle.node_machine.specs.NodeState.{phase_of, phase_resumed, lane_after_wait};
 ghost use Rattle.node_machine.specs.NodeState.{counts_after_wait, AreCountsBelow, IsLaneState};
 ghost use Rattle.node_machine.specs.States.{HasRoom};
 
 use crate::phase::{Phase, is_ended, phase_by, stop_or};
 use crate::protocol_state::ProtocolState;
+use node_words::exec_map::End;
+use node_words::jump_map::{Image, ImageWord};
+use node_words::node_model::{Entry, OutByte};
+use node_words::{ExecState, Served, address_of};
 use run_limits::Budget;
 use std::alloc::AllocError;
-use word_visits::node_words::exec_map::End;
-use word_visits::node_words::jump_map::{Image, ImageWord};
-use word_visits::node_words::node_model::{Entry, OutByte};
-use word_visits::node_words::{ExecState, Served, address_of};
 
 /// What is one processor's own, beside its registers: what it runs, and how far it is.
 #[derive(Drop)]
@@ -108,7 +108,7 @@ impl<'a> LaneState<'a> {
         self.phase = stop_or(self.budget, self.executed, Phase::Resumed);
     }
 
-    /// After a message, with so many waits left: where none is left it goes on by what its word's
+    /// After a message, with `pending` waits left: where none is left it goes on by what its word's
     /// lines allow now, or is stopped by its budget.
     pub fn resume(&mut self, body: &mut ExecState<'_>, pending: u8)
         requires lane { IsLaneState self.old }
@@ -165,7 +165,7 @@ impl<'a> SharedState<'a> {
         print(&mut self.output, self.stamp, output);
     }
 
-    /// Notes that a message came from a node with a stamp, once so many words were executed: the
+    /// Notes that a message came from a node with a stamp, once `executed` words were executed: the
     /// take has the next stamp after that one and its own last.
     pub fn note_take(&mut self, from: u8, stamp: u64, executed: u64)
         requires room { HasRoom self.old }

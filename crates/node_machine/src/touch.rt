@@ -1,16 +1,16 @@
 //! What a node's next word does to memory, as far as its micro-op tells.
 
 ghost use Rattle.std.specs.Prelude.{ℕ, IfSome};
-ghost use Rattle.word_visits.specs.node_words.micro_op.Micro.{sum_address};
-ghost use Rattle.word_visits.specs.node_words.rv32_step.declared.Demand.TheVariants.{Loads, Stores};
-ghost use Rattle.word_visits.specs.node_words.node_model.Node.{native};
+ghost use Rattle.node_words.specs.micro_op.Micro.{sum_address};
+ghost use Rattle.node_words.specs.rv32_step.declared.Demand.TheVariants.{Loads, Stores};
+ghost use Rattle.node_words.specs.node_model.Node.{native};
 ghost use Rattle.node_machine.specs.NodeState.{node_of, work_of, IsNode};
 ghost use Rattle.node_machine.specs.Touch.{IsAccess, IsTouch};
 
 use crate::node_state::NodeState;
+use node_words::micro_op::{MicroKind, MicroOp};
 use rv32_decode::{LoadKind, Width};
 use rv32_program::addresses::MEMORY_END;
-use word_visits::node_words::micro_op::{MicroKind, MicroOp};
 
 /// What a word does to memory.
 #[derive(Clone, Copy, Debug, PartialEq, Eq)]

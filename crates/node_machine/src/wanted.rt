@@ -2,15 +2,15 @@
 
 ghost use Rattle.std.specs.Prelude.{◌≡◌, not, false};
 ghost use Rattle.std.specs.Option.{option_map_or};
-ghost use Rattle.word_visits.specs.node_words.home_directory.Table.{meets};
-ghost use Rattle.word_visits.specs.node_words.node_model.Node as model;
-ghost use Rattle.word_visits.specs.node_words.node_memory.Shelf.{local_of, want_of};
+ghost use Rattle.node_words.specs.home_directory.Table.{meets};
+ghost use Rattle.node_words.specs.node_model.Node as model;
+ghost use Rattle.node_words.specs.node_memory.Shelf.{local_of, want_of};
 ghost use Rattle.node_machine.specs.Wanted as look;
 
 use block_layout::{Block, layout_law};
+use node_words::dsm_messages::Need;
+use node_words::{NodeMemory, Want};
 use state_table::State;
-use word_visits::node_words::dsm_messages::Need;
-use word_visits::node_words::{NodeMemory, Want};
 
 /// A block that a word wants.
 #[derive(Clone, Copy)]

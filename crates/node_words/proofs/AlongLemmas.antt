@@ -92,8 +92,7 @@ further_both image r r' s at j at1 k at2 t b m b' sum next less more one two = r
 -- one
 pub body_one : (image : List Cell) (at k : ℕ) (b b' : ExecState) → length image ≤ most_words → at < length image
     → Follows image (next_outcome (program_of b.local.program) image (lane_of b.lane (word_address at)) (local_of b.local))
-    (ground_of b.local) (word_address k) b'.lane b'.local
-    → BodyReaches image 1 b at 1 b' k
+    (ground_of b.local) (word_address k) b'.lane b'.local → BodyReaches image 1 b at 1 b' k
 body_one image at k b b' few within follows = record {
   goes = λ w. goes_one image at w k b b' follows;
   words = λ work n before looks same program may room look. (

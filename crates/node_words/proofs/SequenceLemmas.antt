@@ -134,8 +134,7 @@ checked_read : (c : Code) (k a v : ℕ) (q : LoadKind) (x : Scratch) (l : Proces
     → StandFrom c.micros (k + 5) (mask x.s ∷ skip x.s (k + 8) ∷ [])
     → (access : IsAccess c.micros (k + 8) x (kind_of_load q)) → a ≡ (reg f x.base + x.imm) % 2 ^ 32
     → is_readable_state (m.state (a / 64)) ≡ true → is_aligned (width_of q) a ≡ true → a < 2 ^ 31
-    → v ≡ load_value q (byte_at c.program l m) a
-    → Crosses None c k 7 (k + 8) 1 (lane_at l f g k) m
+    → v ≡ load_value q (byte_at c.program l m) a → Crosses None c k 7 (k + 8) 1 (lane_at l f g k) m
     (lane_at l (put (put (put f x.s 0) x.t 0x80000000) access.access.rd v) g (k + 9)) m
 checked_read c k a v q x l m f g n look test access is readable aligned low value =
     let op = access.access in
@@ -331,8 +330,7 @@ pub over_reaches : (c : Code) (k to : ℕ) (q : Cond) (l : ProcessorState) (m : 
     → to ≡ k + 2 → Reaches c k 1 (lane_at l f g k) m (lane_at l f g to) m
 over_reaches c k to q l m f g there holds is =
     let op = there.branch in
-    branches_to c k to op l m f g there.there
-    (branch_means q op f there.is
+    branches_to c k to op l m f g there.there (branch_means q op f there.is
     ∙ (λ t. Demands (branch_demand (holds t) (word_address ((there.past ∙ sym is) t)))))
 
 pub jump_behind_reaches : (c : Code) (k to : ℕ) (q : Cond) (l : ProcessorState) (m : NodeMemory) (f g : ℕ → ℕ)
@@ -340,8 +338,7 @@ pub jump_behind_reaches : (c : Code) (k to : ℕ) (q : Cond) (l : ProcessorState
     → to ≡ there.jump.jump.imm → Reaches c k 2 (lane_at l f g k) m (lane_at l f g to) m
 jump_behind_reaches c k to q l m f g there fails is =
     let op = there.branch in
-    reaches_both 1 1 2 refl refl
-    (passes c k (k + 1) op l m f g refl there.there
+    reaches_both 1 1 2 refl refl (passes c k (k + 1) op l m f g refl there.there
     (branch_means q op f there.is ∙ ap (λ (b : Bool). Demands (branch_demand b (word_address op.imm))) fails))
     (jump_reaches c (k + 1) to l m f g there.jump is)
 

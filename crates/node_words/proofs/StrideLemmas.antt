@@ -65,8 +65,7 @@ load_leaves b b' k r a v gives lane local at =
 pub loads : (b b' : ExecState) (k : LoadKind) (r a : ℕ) → is_aligned (width_of k) a ≡ true
     → ((at : ℕ) → LeavesBehind
     (load (program_of b.local.program) (lane_of b.lane at) (local_of b.local) k r a (region_of a))
-    (ground_of b.local) at b'.lane b'.local)
-    → DoesNext b (Loads k r a) b'
+    (ground_of b.local) at b'.lane b'.local) → DoesNext b (Loads k r a) b'
 loads b b' k r a aligned leaves = λ image at index is low place.
     let l = lane_of b.lane (word_address at) in
     let n = local_of b.local in
@@ -87,8 +86,7 @@ store_leaves b b' w a v stored at =
 pub stores : (b b' : ExecState) (w : Width) (a v : ℕ) → is_aligned w a ≡ true
     → ((at : ℕ) → LeavesBehind
     (store (program_of b.local.program) (lane_of b.lane at) (local_of b.local) w a v (region_of a))
-    (ground_of b.local) at b'.lane b'.local)
-    → DoesNext b (Stores w a v) b'
+    (ground_of b.local) at b'.lane b'.local) → DoesNext b (Stores w a v) b'
 stores b b' w a v aligned leaves = λ image at index is low place.
     let l = lane_of b.lane (word_address at) in
     let n = local_of b.local in

@@ -29,10 +29,6 @@ use Rattle.node_words.specs.UndoLogs.{Held, held_of, held_stored, undone, taken_
 
 -- 1. Bytes that are put back
 
-pub raw_byte : (m : ℕ → ℕ) (a : ℕ) → raw Byte m a ≡ m a
-unfolding raw
-raw_byte m a = refl
-
 -- numbers by their bytes
 pub one_byte : (m : ℕ → ℕ) (a v : ℕ) → v ≡ m a → v < 256 → HasBytes m Byte a v
 one_byte m a v is small zero low = let e : v / 1 % 256 ≡ v = omega (arith, small) in e ∙ is ∙ ap m (omega arith)
@@ -89,8 +85,7 @@ pub stored_over : (w : Width) (m : ℕ → ℕ) (a v u : ℕ) → stored w (stor
 stored_over w m a v u = fun_ext (λ x.
     stored_at w (stored w m a v) a u x
     ∙ ap (cond (leb a x && ltb x (a + size_of w)) (u / 2 ^ (8 * (x - a)) % 2 ^ 8)) (stored_at w m a v x)
-    ∙ twice (leb a x && ltb x (a + size_of w)) _ _ _
-    ∙ sym (stored_at w m a u x))
+    ∙ twice (leb a x && ltb x (a + size_of w)) _ _ _ ∙ sym (stored_at w m a u x))
   where
     twice : (t : Bool) (p q r : ℕ) → cond t p (cond t q r) ≡ cond t p r
     twice true p q r = refl
@@ -240,8 +235,7 @@ pub undoable_stored : (b b' : ExecState) (w : Width) (a v at : ℕ) → b'.log.o
     → (b.log.on ≡ true → Notes (byte_at (program_of b.local.program) (lane_of b.lane at) (local_of b.local)) w a
     b.log.notes.items b'.log.notes.items)
     → LeavesBehind (store (program_of b.local.program) (lane_of b.lane at) (local_of b.local) w a v (region_of a))
-    (ground_of b.local) at b'.lane b'.local
-    → StaysUndoable b b'
+    (ground_of b.local) at b'.lane b'.local → StaysUndoable b b'
 undoable_stored b b' w a v at same noted leaves on =
     let p = program_of b.local.program in
     let l = lane_of b.lane at in
@@ -336,8 +330,7 @@ load_keeps program l n k r a Elsewhere = (refl, refl)
 
 pub undoable_loaded : (b b' : ExecState) (k : LoadKind) (r a at : ℕ) → b'.log ≡ b.log
     → LeavesBehind (load (program_of b.local.program) (lane_of b.lane at) (local_of b.local) k r a (region_of a))
-    (ground_of b.local) at b'.lane b'.local
-    → StaysUndoable b b'
+    (ground_of b.local) at b'.lane b'.local → StaysUndoable b b'
 undoable_loaded b b' k r a at log leaves =
     let keeps = load_keeps (program_of b.local.program) (lane_of b.lane at) (local_of b.local) k r a (region_of a) in
     let local = leaves.local ∙ keeps.1 in

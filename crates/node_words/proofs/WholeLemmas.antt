@@ -192,8 +192,7 @@ read_head_goes c at at' n b b' same few there clear end lane local =
     crosses c None at at' (12 + n) (at + n + 16) n b b' _ (local_of b.local) same (ap ground_of local)
     (lane (word_address at')
     ∙ ap (λ (i : ℕ). left_by_head n x.s x.t h.u state (lane_of b.lane (word_address i))) end
-    ∙ sym (head_placed n x.s x.t h.u state next l))
-    (ap local_of local)
+    ∙ sym (head_placed n x.s x.t h.u state next l)) (ap local_of local)
     (read_head_reaches c at n _ _ l (local_of b.local) (registers_of b.lane.registers) (slice_index b.lane.spills) few there
     refl refl clear)
 
@@ -214,8 +213,7 @@ write_head_goes c at at' n b b' same few there clear end lane local =
     crosses c None at at' (11 + n) (at + n + 15) n b b' _ (local_of b.local) same (ap ground_of local)
     (lane (word_address at')
     ∙ ap (λ (i : ℕ). left_by_head n x.s x.t h.u state (lane_of b.lane (word_address i))) end
-    ∙ sym (head_placed n x.s x.t h.u state next l))
-    (ap local_of local)
+    ∙ sym (head_placed n x.s x.t h.u state next l)) (ap local_of local)
     (write_head_reaches c at n _ _ l (local_of b.local) (registers_of b.lane.registers) (slice_index b.lane.spills) few there
     refl refl clear)
 

@@ -84,8 +84,7 @@ still_may p (suc k) may = refl
 
 -- a word more, of which its micro-op did what it does
 pub body_more : (image : List Cell) (most from words at k : ℕ) (b m b' : ExecState)
-    → words < most → ground_of m.local ≡ ground_of b.local
-    → BodyGoesOn image most from b words at m
+    → words < most → ground_of m.local ≡ ground_of b.local → BodyGoesOn image most from b words at m
     → Follows image (next_outcome (program_of m.local.program) image (lane_of m.lane (word_address at)) (local_of m.local)) (ground_of m.local) (word_address k) b'.lane b'.local
     → BodyGoesOn image most from b (words + 1) k b'
 body_more image most from words at k b m b' below ground on follows = λ work n same program may room.

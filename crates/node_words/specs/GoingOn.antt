@@ -33,6 +33,15 @@ BodyGoesOn image most from b words at b' =
     → can_execute n.phase ≡ true → n.executed + most < work.budget
     → GoesOnBy work words (node_on n b from 0) (node_on n b' at words)
 
+-- what so many words by which a body goes on tell: of a node whose budget has more than so many; and
+-- of every node, where there are none
+pub record BodyTells (told : Work → ℕ → Node → Type 0) (image : List Cell) (most from : ℕ)
+    (b : ExecState) (words : ℕ) : Type 0 where
+  pub some : (work : Work) (n : Node) → work.image ≡ image
+      → work.program ≡ program_of b.local.program → can_execute n.phase ≡ true
+      → n.executed + most < work.budget → told work words (node_on n b from 0)
+  pub none : words ≡ 0 → (work : Work) (n : Node) → told work 0 n
+
 -- a body that has gone on to a word with an index goes on from there to another
 pub record GoesFurther (image : List Cell) (b : ExecState) (at words : ℕ) (b' : ExecState)
     (at' words' : ℕ)

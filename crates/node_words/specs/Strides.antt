@@ -29,7 +29,7 @@ pub record StepsBy (image : List Cell) (m : MicroOp) (from : Going) (b : ExecSta
       b.local b'.lane b'.local (Some to.at)
 
 -- where the words of a stride stand: they are among so many from its first on; the last few may
--- stand behind a jump, up to where it goes on, and the others stand from its first on. Of one word
+-- stand after a jump, up to where it goes on, and the others stand from its first on. Of one word
 -- it may be told that it reads something other than the flag word
 pub record Trail : Type 0 where
   pub reach : ℕ
@@ -40,7 +40,7 @@ pub record Trail : Type 0 where
 abbrev pub straight : (reach : ℕ) → Trail
 straight reach = record { reach = reach; behind = 0; told = None }
 
--- that of a checked sequence, of which so many words stand behind the jump past its call
+-- that of a checked sequence, of which so many words stand after the jump past its call
 abbrev pub checked : (reach behind : ℕ) → Trail
 checked reach behind = record { reach = reach; behind = behind; told = None }
 

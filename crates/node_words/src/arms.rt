@@ -31,8 +31,8 @@ use crate::lane::address_of;
 use crate::strides::Going;
 use node_memory::jump_map::{IMAGE_BASE, Image};
 use node_memory::micro_op::MicroOp;
+use node_memory::node_model::state_table::{is_readable, is_writable};
 use node_memory::runtime_words::FLAG_WORD;
-use node_memory::{is_readable, is_writable};
 use rv32_decode::{Cond, LoadKind, Op, Reg, Width};
 use rv32_ops::{alu, extend, taken};
 
@@ -178,7 +178,7 @@ impl<'a> ExecState<'a> {
         self.lane.registers.set(rd, value);
     }
 
-    /// A jump that keeps no link, where it is the last of so many words.
+    /// A jump that keeps no link, where it is the last of `words` words.
     #[inline(always)]
     pub(crate) fn jump(&self, words: u32, op: &MicroOp, going: &mut Going) -> bool
         requires room { words ≤ going.old.left }
@@ -226,7 +226,7 @@ impl<'a> ExecState<'a> {
         true
     }
 
-    /// Enters the sequence of an original address, where it is the last of so many words.
+    /// Enters the sequence of an original address, where it is the last of `words` words.
     #[inline(always)]
     pub(crate) fn enter(&self, words: u32, op: &MicroOp, image: &Image, going: &mut Going) -> bool
         requires room { words ≤ going.old.left }

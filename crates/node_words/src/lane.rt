@@ -27,7 +27,7 @@ pub struct ProcessorState {
 /// Where a processor goes on once nothing that its word wanted is on its way.
 #[derive(Clone, Copy, PartialEq, Eq)]
 pub enum Resume {
-    /// Behind the word.
+    /// After the word.
     PastWord,
     /// At the word again.
     SameWord,

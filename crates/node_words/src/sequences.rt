@@ -31,7 +31,7 @@ use rv32_decode::{Cond, LoadKind, Op, Reg, Width};
 use rv32_program::addresses::STATE_TABLE;
 
 impl<'a> ExecState<'a> {
-    /// A branch past a jump, and that jump, behind so many words that change nothing.
+    /// A branch past a jump, and that jump, after `behind` words that change nothing.
     #[inline]
     pub(crate) fn over(&self, c: Cond, behind: usize, micros: &[MicroOp], going: &mut Going) -> bool
         requires room { behind + 2 ≤ going.old.left }
@@ -54,7 +54,7 @@ impl<'a> ExecState<'a> {
         true
     }
 
-    /// An operation on a register and the immediate, and the sum behind it.
+    /// An operation on a register and the immediate, and the sum after it.
     #[inline]
     pub(crate) fn imm_then_add(
         &mut self,
@@ -81,7 +81,7 @@ impl<'a> ExecState<'a> {
         self.add(registers, second, going)
     }
 
-    /// An operation on two registers, and the sum behind it.
+    /// An operation on two registers, and the sum after it.
     #[inline]
     pub(crate) fn registers_then_add(
         &mut self,
@@ -108,8 +108,7 @@ impl<'a> ExecState<'a> {
         self.add(registers, second, going)
     }
 
-    /// A sum, and behind it a branch past a jump, and that jump, behind so many words that change
-    /// nothing.
+    /// A sum, and after it a branch past a jump, and that jump, after words that change nothing.
     #[inline]
     pub(crate) fn add_over(
         &mut self,
@@ -216,7 +215,7 @@ impl<'a> ExecState<'a> {
         self.lane.registers.set(upper.rd, number);
     }
 
-    /// A load whose line's state is tested, with so many registers spilled.
+    /// A load whose line's state is tested, with `spilled` registers spilled.
     #[tactic(auto, using(crate::proofs::UndoLogLemmas::undoable_same))]
     #[inline]
     pub(crate) fn read(
@@ -249,7 +248,7 @@ impl<'a> ExecState<'a> {
         }
     }
 
-    /// A store whose line's state is tested, with so many registers spilled.
+    /// A store whose line's state is tested, with `spilled` registers spilled.
     #[inline]
     pub(crate) fn write(
         &mut self,
@@ -284,7 +283,7 @@ impl<'a> ExecState<'a> {
         }
     }
 
-    /// A load that looks at its value, with so many registers spilled.
+    /// A load that looks at its value, with `spilled` registers spilled.
     #[tactic(auto, using(crate::proofs::UndoLogLemmas::undoable_same))]
     #[inline]
     pub(crate) fn flag(&mut self, spilled: usize, micros: &[MicroOp], going: &mut Going) -> bool
@@ -311,7 +310,7 @@ impl<'a> ExecState<'a> {
         }
     }
 
-    /// The head of a batch that only loads, with so many registers spilled.
+    /// The head of a batch that only loads, with `spilled` registers spilled.
     #[inline(always)]
     pub(crate) fn read_head(
         &mut self,
@@ -337,7 +336,7 @@ impl<'a> ExecState<'a> {
         }
     }
 
-    /// The head of a batch that stores, with so many registers spilled.
+    /// The head of a batch that stores, with `spilled` registers spilled.
     #[inline(always)]
     pub(crate) fn write_head(
         &mut self,
@@ -402,7 +401,7 @@ impl<'a> ExecState<'a> {
         }
     }
 
-    /// Leaves both scratch registers of a check as it does, with so many spilled.
+    /// Leaves both scratch registers of a check as it does, with `spilled` spilled.
     #[inline(always)]
     fn leave(&mut self, spilled: usize, s: Reg, t: Reg)
         ensures lane { (at : ℕ) → lane_of self.new.lane at

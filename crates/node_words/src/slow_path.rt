@@ -25,10 +25,10 @@ use crate::lane::{
 use node_memory::dsm_messages::Need;
 use node_memory::exec_map::Exit;
 use node_memory::jump_map::{Image, ImageWord};
+use node_memory::node_model::state_table::{is_fixed, is_mapped, is_readable, is_writable};
 use node_memory::node_model::templates::Place;
 use node_memory::runtime_words::RtWord;
 use node_memory::rv32_step::{CallStep, Demand, call_step, cut_short, demand_of};
-use node_memory::{is_fixed, is_mapped, is_readable, is_writable};
 use rv32_decode::{AmoOp, Imm12, Instr, LoadKind, Reg, Width};
 use rv32_ops::amo;
 

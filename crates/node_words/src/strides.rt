@@ -32,7 +32,7 @@ pub struct Going {
 }
 
 impl Going {
-    /// So many words were executed, and the word so much further on follows.
+    /// `words` words were executed, and the word `further` words on follows.
     #[inline(always)]
     pub(crate) fn on(&mut self, words: u32, further: usize)
         requires room { words ≤ self.old.left }
@@ -44,7 +44,7 @@ impl Going {
         self.left -= words;
     }
 
-    /// So many words were executed, and the word of a number follows.
+    /// `words` words were executed, and the word of a number follows.
     #[inline(always)]
     pub fn to(&mut self, words: u32, number: usize)
         requires room { words ≤ self.old.left }
@@ -60,7 +60,7 @@ impl Going {
 
 impl<'a> ExecState<'a> {
     /// Executes words from an index on by their micro-ops, and silent ones that have none, and at
-    /// most so many.
+    /// most `most`.
     #[inline(never)]
     pub fn run(&mut self, image: &Image, from: u32, most: u64) -> Progress
         requires { length image.now ≤ most_words }
@@ -321,7 +321,7 @@ impl<'a> ExecState<'a> {
         }
     }
 
-    /// Executes words from an index on one by one, and at most so many.
+    /// Executes words from an index on one by one, and at most `most`.
     #[inline(never)]
     fn run_singly(&mut self, image: &Image, from: u32, most: u64) -> Progress
         requires { length image.now ≤ most_words }
@@ -346,7 +346,7 @@ impl<'a> ExecState<'a> {
     /// Executes a micro-op at an index, and gives the index of the word that follows. `None` where
     /// the path that serves every word has to; then nothing changed.
     #[inline(always)]
-    pub fn step(&mut self, image: &Image, op: &MicroOp, at: u32) -> Option<u32>
+    pub(crate) fn step(&mut self, image: &Image, op: &MicroOp, at: u32) -> Option<u32>
         requires low { at < most_words }
         ensures steps { StepsTo image.now
             (meaning_of image_base op.now (registers_of self.old.lane.registers)) at
@@ -370,7 +370,13 @@ impl<'a> ExecState<'a> {
     /// nothing changes.
     #[tactic(auto, using(crate::proofs::UndoLogLemmas::undoable_same))]
     #[inline(always)]
-    pub fn one(&mut self, kind: StrideKind, image: &Image, op: &MicroOp, going: &mut Going) -> bool
+    pub(crate) fn one(
+        &mut self,
+        kind: StrideKind,
+        image: &Image,
+        op: &MicroOp,
+        going: &mut Going,
+    ) -> bool
         requires plain { IsPlain kind op.now }
         requires room { 0 < going.old.left }
         requires low { going.old.at < most_words }

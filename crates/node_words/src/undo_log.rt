@@ -1,10 +1,10 @@
 //! What takes back words that were executed by their micro-ops.
 
-ghost use Rattle.std.specs.Prelude.{◌≡◌, ◌<◌, ◌≤◌, true, All, length};
+ghost use Rattle.std.specs.Prelude.{◌≡◌, ◌<◌, ◌≤◌, true, All, List, length};
 ghost use Rattle.node_memory.specs.exec_map.Contents.{program_of};
-ghost use Rattle.node_memory.specs.jump_map.Image.{most_words};
+ghost use Rattle.node_memory.specs.jump_map.Image.{Cell, most_words};
 ghost use Rattle.node_memory.specs.Shelf.{Shelf, ground_of, local_of};
-ghost use Rattle.node_words.specs.GoingOn.{BodyGoesOn};
+ghost use Rattle.node_words.specs.GoingOn.{BodyGoesOn, BodyTells};
 ghost use Rattle.node_words.specs.UndoLogs.{Saves, TakesBack, AreSame, IsAlignedNote};
 ghost use Rattle.node_words.specs.UndoLogs.{held_of, taken_back};
 ghost use Rattle.node_words.specs.declared.lane.ProcessorState as kept;
@@ -13,6 +13,7 @@ use crate::exec_state::ExecState;
 use crate::lane::ProcessorState;
 use crate::serve::Progress;
 use crate::store_log::Note;
+use crate::word_loop::WordLoop;
 use node_memory::jump_map::Image;
 use node_memory::rv32_step::Registers;
 use std::alloc::{AllocError, Global};
@@ -54,18 +55,24 @@ impl UndoLog {
 }
 
 impl<'a> ExecState<'a> {
-    /// Executes words from an index on by their micro-ops, as long as those serve them and the
-    /// undo log has room, and at most so many. The undo log takes them back.
+    /// Executes words from an index on by a loop, as long as the undo log has room, and at most so
+    /// many. The undo log takes them back.
     #[inline(never)]
-    pub fn run_noting(
+    pub fn run_noting<L: WordLoop>(
         &mut self,
+        by: &mut L,
         image: &Image,
         from: u32,
         most: u64,
         undo_log: &mut UndoLog,
     ) -> Progress
-        requires { length image.now ≤ most_words }
+        requires few { length image.now ≤ most_words }
+        requires goes_over { L.goes_over image.now by.old }
         ensures words { BodyGoesOn image.now most from self.old result.words result.at self.new }
+        ensures learns { BodyTells (λ work k n. L.learns work k n by.old by.new) image.now
+            most from self.old result.words }
+        ensures stays { (other : List Cell) → L.goes_over other by.old
+            → L.goes_over other by.new }
         ensures most { result.words ≤ most }
         ensures back { TakesBack undo_log.new.saved undo_log.new.notes.items self.new.lane
             self.new.local
@@ -73,7 +80,7 @@ impl<'a> ExecState<'a> {
         ensures counts { self.new.counts ≡ self.old.counts }
     {
         self.start_noting(undo_log);
-        let progress = self.run(image, from, most);
+        let progress = by.run(self, image, from, most);
         self.stop_noting(undo_log);
         progress
     }

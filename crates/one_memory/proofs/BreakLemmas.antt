@@ -6,7 +6,7 @@ use Rattle.std.specs.Option.{option_map_or}
 use Rattle.std.proofs.lemmas.Bool.{cases_Bool}
 use Rattle.std.proofs.lemmas.Bool.Decides.{nat_tests}
 use Rattle.rv32_decode.specs.declared.Instr.{Instr}
-use Rattle.rv32_decode.specs.declared.Instr.TheVariants.{Lui, Auipc, Jal, Jalr, Branch, Load, Store, OpImm, ShiftImm, Op, Fence, Ecall, Ebreak, Lr, Sc, Amo, Illegal}
+use Rattle.rv32_decode.specs.declared.Instr.TheVariants.{Store}
 use Rattle.block_layout.specs.Layout.{Shape}
 use Rattle.rv32_program.specs.Program.{Program}
 use Rattle.rv32_step.specs.Registers.{reg}
@@ -152,22 +152,7 @@ module _ (program : Program) (layout : Shape) (b base value : ℕ) where
 -- the store by a base register has that one
 base_of : (base : ℕ) (i : Instr) → stores_by base i ≡ true → store_base i ≡ Some base
 base_of base (Store w rs1 rs2 imm) h = let same : rs1 ≡ base = grind (arith, nat_tests) in ap (λ r. Some r) same
-base_of base (Lui rd upper) h = absurd (cc)
-base_of base (Auipc rd upper) h = absurd (cc)
-base_of base (Jal rd offset) h = absurd (cc)
-base_of base (Jalr rd rs1 imm) h = absurd (cc)
-base_of base (Branch c rs1 rs2 offset) h = absurd (cc)
-base_of base (Load k rd rs1 imm) h = absurd (cc)
-base_of base (OpImm o rd rs1 imm) h = absurd (cc)
-base_of base (ShiftImm o rd rs1 amount) h = absurd (cc)
-base_of base (Op o rd rs1 rs2) h = absurd (cc)
-base_of base (Fence rd rs1 bits) h = absurd (cc)
-base_of base Ecall h = absurd (cc)
-base_of base Ebreak h = absurd (cc)
-base_of base (Lr rd rs1 aq rl) h = absurd (cc)
-base_of base (Sc rd rs1 rs2 aq rl) h = absurd (cc)
-base_of base (Amo o rd rs1 rs2 aq rl) h = absurd (cc)
-base_of base (Illegal word) h = absurd (cc)
+base_of base other h = absurd (cc)
 
 module _ (program : Program) (layout : Shape) (b : ℕ) (registers : ℕ → ℕ) (pc : ℕ) where
   abbrev Reaches : ℕ → Type 0

@@ -1,6 +1,6 @@
 -- Decoding the code words in order.
 use Rattle.std.proofs.Common.{◌≡◌, ℕ, zero, suc, ◌+◌, ◌-◌, ◌%◌, ◌<◌, ◌≤◌, Bool, true, ◌&&◌, eqb, List, [], ◌∷◌, ◌++◌, length, Option, Some, None, refl, sym, ap, ◌∙◌, subst, arith, inl, inr, IfSome}
-use Rattle.std.specs.Prelude.{slice_get, unwrap_or}
+use Rattle.std.specs.Prelude.{slice_get}
 use Rattle.std.proofs.lemmas.Bool.{cases_lt}
 use Rattle.std.proofs.lemmas.Bool.Decides.{eqb_tells, nat_tests}
 use Rattle.std.proofs.lemmas.List.{length-append}
@@ -36,9 +36,6 @@ each_push P xs y each last k x is = elim (cases_lt k (length xs)) [
   ]
 ]
 
-pub no_ops : (e : Elf) (first : ℕ) → AreOps e first []
-no_ops e first k op is = absurd (cc)
-
 pub ops_push : (e : Elf) (first : ℕ) (ops : List MicroOp) (op : MicroOp) (end : ℕ) → AreOps e first ops → index_address 0 (first + length ops) ≡ end → Serves e end op → AreOps e first (ops ++ op ∷ [])
 ops_push e first ops op end are at serves =
     each_push (λ k x. Serves e (index_address 0 (first + k)) x) ops op are (subst (λ a. Serves e a op) (sym at) serves)
@@ -56,19 +53,10 @@ pub next_word : (e : Elf) (from : ℕ) (r : Option ℕ) → IfSome r (λ a. IsNe
 next_word e from None next low = tt
 next_word e from (Some a) next low = record { aligned = aligned_word (a % 4) _ next.code_word; low = low; at_least = next.at_least }
 
--- the first word, or address 0
-pub first_word : (r : Option ℕ) (a : ℕ) → IfSome r (λ x. IsWord 0 x) → a ≡ unwrap_or r 0 → IsWord 0 a
-first_word None a word is = rw is (record { aligned = refl; low = omega arith; at_least = omega arith })
-first_word (Some x) a word is = subst (IsWord 0) (sym is) word
-
 -- the bytes that are left
 abbrev pub bytes_left : Option ℕ → ℕ
 bytes_left None = 0
 bytes_left (Some a) = 2147418112 - a
-
-pub fewer_left : (a end : ℕ) (r : Option ℕ) → a + 4 ≤ 2147418112 → a < end → IfSome r (λ x. IsWord end x) → bytes_left r < bytes_left (Some a)
-fewer_left a end None low more word = omega (arith, low)
-fewer_left a end (Some x) low more word = let from = word.at_least in omega (arith, low, more, from)
 
 pub from_start : (from : ℕ) (r : Option ℕ) → IfSome r (λ a. IsWord from a) → IfSome r (λ a. IsWord 0 a)
 from_start from None word = tt

@@ -4,7 +4,7 @@ use Rattle.std.proofs.lemmas.Bool.{cases_Bool}
 use Rattle.std.proofs.lemmas.Bool.Decides.{eqb_tells, nat_tests}
 use Rattle.std.proofs.lemmas.List.{length-set, length-replicate, get_or_past}
 use Rattle.rv32_decode.specs.declared.Instr.{Instr}
-use Rattle.rv32_decode.specs.declared.Instr.TheVariants.{Lui, Auipc, Jal, Jalr, Branch, Load, Store, OpImm, ShiftImm, Op, Fence, Ecall, Ebreak, Lr, Sc, Amo, Illegal}
+use Rattle.rv32_decode.specs.declared.Instr.TheVariants.{Lui, Auipc, Jal, Jalr, Branch, Load, Store, OpImm, ShiftImm, Op, Fence, Ecall, Ebreak, Illegal}
 use Rattle.rv32_decode.specs.declared.Width.{Width}
 use Rattle.rv32_decode.specs.declared.Width.TheVariants.{Byte, Half, Word}
 use Rattle.rv32_decode.specs.Rows.{instruction_of}
@@ -68,9 +68,7 @@ demand_sets (Fence rd rs1 bits) registers pc is = tt
 demand_sets Ecall registers pc is = tt
 demand_sets Ebreak registers pc is = tt
 demand_sets (Illegal word) registers pc is = tt
-demand_sets (Lr rd rs1 aq rl) registers pc is = is.0
-demand_sets (Sc rd rs1 rs2 aq rl) registers pc is = is.0
-demand_sets (Amo o rd rs1 rs2 aq rl) registers pc is = is.0
+demand_sets other registers pc is = is.0
 
 -- the registers after a write of one of them
 pub registers_put : (registers : ℕ → ℕ) (r value : ℕ) → r < 32 → AreRegisters registers → AreRegisters (put registers r value)

@@ -201,9 +201,6 @@ falls r k r' turn =
 abbrev pub Leads : OriginalRun → ℕ → OriginalRun → ℕ → Type 0
 Leads first number r number' = (end : State) → HasRun r number' end → HasRun first number end
 
-pub leads_self : (r : OriginalRun) (number : ℕ) → Leads r number r number
-leads_self r number = λ end has. has
-
 pub leads_on : (from : OriginalRun) (first : ℕ) (r : OriginalRun) (number k : ℕ) (r' : OriginalRun) (number' : ℕ) → IsTurn r k r' → k ≡ choice (length r.live.items) (following number) → number' ≡ following number → Leads from first r number → Leads from first r' number'
 leads_on from first r number k r' number' turn chosen next so_far = λ end has.
     let o = original_of r.machine in
@@ -219,10 +216,6 @@ leads_on from first r number k r' number' turn chosen next so_far = λ end has.
       end_is = has.end_is ∙ ap (λ (w : Original). run w (state_of r'.machine) (map (λ q. Step q) has.picks)) turn.original
           ∙ ap (λ t. run o t (map (λ q. Step q) has.picks)) turn.state;
     })
-
--- where none goes on, the run is whole
-pub none_left : (r : OriginalRun) (number : ℕ) → IsRunning r → r.live.items ≡ [] → HasRun r number (state_of r.machine)
-none_left r number running none = record { picks = []; ordered = sym running.live ∙ none; end_is = refl }
 
 pub one_end : (budget : ℕ) (s : State) (ends more : List End) (p : ℕ) (exit : Option Exit) (e : End) → ends ≡ ends_by budget s p → exit ≡ (s.processors p).exit → e ≡ end_by budget exit → more ≡ ends ++ e ∷ [] → more ≡ ends_by budget s (p + 1)
 one_end budget s ends more p exit e so_far is end pushed =

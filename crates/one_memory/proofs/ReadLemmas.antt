@@ -1,13 +1,13 @@
 -- What a processor reads in one line.
 use Rattle.std.proofs.Common.{◌≡◌, ℕ, ◌+◌, ◌/◌, ◌%◌, Bool, true, false, Option, Some, None, refl, sym, ap, ◌∙◌, arith, inl, inr}
-use Rattle.std.specs.Prelude.{MatchOption, find, if◌then◌else◌, is_some}
+use Rattle.std.specs.Prelude.{MatchOption, find, if◌then◌else◌}
 use Rattle.std.proofs.lemmas.Bool.{cases_Bool}
 use Rattle.std.proofs.lemmas.Bool.Decides.{nat_tests}
 use Rattle.rv32_decode.specs.declared.Width.{Width}
 use Rattle.rv32_decode.specs.declared.Width.TheVariants.{Byte, Half, Word}
 use Rattle.elf32_read.specs.Elf.{Elf, Segment}
-use Rattle.exec_map.specs.Contents.{program_of, first_byte, is_shared, is_read_only, is_private, is_writable, touches, class_of_line, segment_class}
-use Rattle.byte_range.specs.Lines.{LineBytes, lines_memory, place_of}
+use Rattle.exec_map.specs.Contents.{program_of, first_byte, is_shared, is_private, is_writable, touches, class_of_line, segment_class}
+use Rattle.byte_range.specs.Lines.{lines_memory}
 use Rattle.byte_range.specs.Window.{window_memory, is_in_window}
 use Rattle.rv32_program.specs.declared.Class.{Class}
 use Rattle.rv32_program.specs.declared.Class.TheVariants.{Shared, ReadOnly, Private, Unmapped}
@@ -16,7 +16,7 @@ use Rattle.byte_range.specs.Memory.{raw}
 use Rattle.rv32_decode.specs.Widths.{is_aligned}
 use Rattle.rv32_step.specs.Memory.{byte_by}
 use Rattle.one_memory.specs.declared.processor.OriginalState.{OriginalState}
-use Rattle.one_memory.specs.Machine.{MemoryParts, HasFixed, byte_seen}
+use Rattle.one_memory.specs.Machine.{MemoryParts, byte_seen}
 
 -- an aligned access is made in one line
 in_line : (w : Width) (f g : ℕ → ℕ) (a : ℕ) → is_aligned w a ≡ true → ((x : ℕ) → x / 64 ≡ a / 64 → f x ≡ g x) → raw w f a ≡ raw w g a
@@ -55,9 +55,7 @@ read_at m k c w a is aligned =
 
 shared_class : (c : Class) → true ≡ is_shared c → c ≡ Shared
 shared_class Shared is = refl
-shared_class ReadOnly is = absurd (cc)
-shared_class Private is = absurd (cc)
-shared_class Unmapped is = absurd (cc)
+shared_class other is = absurd (cc)
 
 mapped_class : (c d : Class) → c ≡ d → (d ≡ Unmapped → ⊥) → c ≡ Unmapped → ⊥
 mapped_class c d is mapped unmapped = mapped (sym is ∙ unmapped)
@@ -140,17 +138,3 @@ as_byte_option m k a (Some n) shared window first =
 
 pub byte_aligned : (a : ℕ) → is_aligned Byte a ≡ true
 byte_aligned a = grind (arith, nat_tests)
-
-read_only_class : (c : Class) → true ≡ is_read_only c → c ≡ ReadOnly
-read_only_class Shared is = absurd (cc)
-read_only_class ReadOnly is = refl
-read_only_class Private is = absurd (cc)
-read_only_class Unmapped is = absurd (cc)
-
--- what the read-only lines give
-pub read_fixed : (e : Elf) (m : LineBytes) (w : Width) (a : ℕ) (r : Option ℕ) → HasFixed e m → is_some r ≡ is_some (place_of m.ranges (a / 64)) → ((outside : ℕ → ℕ) (n : ℕ) → r ≡ Some n → n ≡ raw w (lines_memory m outside) a) → MatchOption r (class_of_line e (a / 64) ≡ ReadOnly → ⊥) (λ n. (class_of_line e (a / 64) ≡ ReadOnly) × (n ≡ raw w (first_byte e) a))
-read_fixed e m w a None fixed found value = λ is. let both : false ≡ true = found ∙ fixed.lines (a / 64) ∙ ap is_read_only is in absurd (cc)
-read_fixed e m w a (Some n) fixed found value = (
-  read_only_class (class_of_line e (a / 64)) (found ∙ fixed.lines (a / 64)),
-  value (first_byte e) n refl ∙ ap (λ (f : ℕ → ℕ). raw w f a) fixed.bytes,
-)

@@ -1,15 +1,15 @@
 -- Reservations as a list, one after another.
-use Rattle.std.proofs.Common.{◌≡◌, ◌≢◌, ℕ, ◌+◌, ◌<◌, ◌≤◌, ◌||◌, Bool, true, false, List, length, set, replicate, Option, Some, None, refl, sym, ap, ◌∙◌, arith, inl, inr}
+use Rattle.std.proofs.Common.{◌≡◌, ◌≢◌, ℕ, ◌+◌, ◌<◌, ◌≤◌, ◌||◌, Bool, true, false, List, length, set, Option, Some, None, refl, sym, ap, ◌∙◌, arith, inl, inr}
 use Rattle.std.specs.Prelude.{is_some, if◌then◌else◌, ◌==◌}
 use Rattle.std.specs.Option.{option_map_or}
 use Rattle.std.proofs.Math.Path.{fun_ext}
 use Rattle.std.proofs.lemmas.Bool.{cases_lt}
 use Rattle.std.proofs.lemmas.Bool.Decides.{eqb_tells}
-use Rattle.std.proofs.lemmas.List.{length-set, length-replicate, get_or-set_same, get_or-set_other, get_or_past, get_or-replicate}
+use Rattle.std.proofs.lemmas.List.{length-set, get_or-set_same, get_or-set_other, get_or_past}
 use Rattle.block_layout.specs.Layout.{Shape, block_of}
 use Rattle.llsc.specs.Reservation.{cleared}
 use Rattle.rv32_program.specs.Program.{line_of}
-use Rattle.rv32_step.specs.Reservations.{with_reservation, after_other, after_store_by}
+use Rattle.rv32_step.specs.Reservations.{after_other, after_store_by}
 use Rattle.one_memory.specs.Machine.{reserved_in}
 
 reserved_same : (xs : List (Option ℕ)) (i : ℕ) (y : Option ℕ) → i < length xs → reserved_in (set xs i y) i ≡ y
@@ -17,23 +17,6 @@ reserved_same xs i y h = get_or-set_same xs i y None h
 
 reserved_other : (xs : List (Option ℕ)) (i j : ℕ) (y : Option ℕ) → j ≢ i → reserved_in (set xs i y) j ≡ reserved_in xs j
 reserved_other xs i j y h = get_or-set_other xs i j y None h
-
--- another reservation of processor p
-pub reserved_set : (xs : List (Option ℕ)) (p : ℕ) (y : Option ℕ) → p < length xs → reserved_in (set xs p y) ≡ with_reservation (reserved_in xs) p y
-reserved_set xs p y h = fun_ext (λ q. elim (eqb_tells q p) [
-  | inl e ↦ rw (e.0, e.1) (reserved_same xs p y h)
-  | inr e ↦ rw e.0 (reserved_other xs p q y e.1)
-])
-
-nobody : Option ℕ
-nobody = None
-
-pub none_reserved : reserved_in (replicate {A = Option ℕ} 16 None) ≡ (λ p. None)
-unfolding nobody
-none_reserved = fun_ext (λ p. elim (cases_lt p 16) [
-  | inl lt ↦ get_or-replicate 16 p nobody None lt
-  | inr ge ↦ get_or_past (replicate {A = Option ℕ} 16 None) p None (omega (arith, ge, length-replicate 16 nobody))
-])
 
 -- those before q have been judged, and the rest stand as they stood
 pub record AreEnded (layout : Shape) (p a : ℕ) (old now : List (Option ℕ)) (q : ℕ) (any : Bool) : Type 0 where

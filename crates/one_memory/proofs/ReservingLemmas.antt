@@ -81,8 +81,7 @@ by_case o s p r a v false = (refl, refl, elim (eqb_tells p p) [ inl e ↦ rw e.0
 asked : (o : Original) (s : State) (p r a v : ℕ) → IsAtConditional o s p r a v → request o.program (s.processors p) ≡ StoresWhere r a v
 asked o s p r a v h =
     let q = s.processors p in
-    ap (request_at o.program q) h.here ∙ ap (request_for o.program q) h.demands
-    ∙ judged
+    ap (request_at o.program q) h.here ∙ ap (request_for o.program q) h.demands ∙ judged
   where
     judged : request_for o.program (s.processors p) (StoresIf r a v) ≡ StoresWhere r a v
     judged = rw (h.aligned, h.writable) refl

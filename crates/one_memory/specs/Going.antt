@@ -1,4 +1,4 @@
--- Helps the code alone: words of a region that a processor executes one behind the other.
+-- Helps the code alone: words of a region that a processor executes one after the other.
 use Rattle.std.specs.Prelude.{◌≡◌, ℕ, ◌+◌, ◌-◌, ◌%◌, ◌^◌, ◌≤◌, List, Some, length, slice_get}
 use Rattle.micro_op.specs.declared.micro_op.MicroOp.{MicroOp}
 use Rattle.one_memory.specs.declared.processor.OriginalState.{OriginalState}

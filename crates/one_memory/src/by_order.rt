@@ -16,7 +16,7 @@ use run_limits::{Budget, NodeCount};
 use std::alloc::{AllocError, Global};
 
 /// What a run left: the bytes printed, and how each processor ended.
-#[derive(Debug, Drop)]
+#[derive(Drop)]
 pub struct OriginalOutcome {
     pub output: Vec<u8>,
     pub ends: Vec<End>,
@@ -27,15 +27,15 @@ pub struct OriginalOutcome {
 struct OriginalRun<'a> {
     machine: OneMemory<'a>,
     nodes: NodeCount,
-    /// After so many steps a processor is stopped.
+    /// After this number of steps a processor is stopped.
     budget: u64,
     steps: Vec<u64>,
     /// The processors that go on, ascending.
     live: Vec<u8>,
 }
 
-/// Runs so many processors of a program, whose shared lines have these blocks, to their ends: by
-/// themselves, or after so many steps.
+/// Runs the processors of a program, whose shared lines have these blocks, to their ends: by
+/// themselves, or after `budget` steps.
 pub fn run_by_order(
     alloc: Global,
     program: &Program<'_>,
@@ -56,7 +56,7 @@ pub fn run_by_order(
 }
 
 impl<'a> OriginalRun<'a> {
-    /// So many processors of a program, whose shared lines have these blocks, at the start.
+    /// The processors of a program, whose shared lines have these blocks, at the start.
     fn new(
         alloc: Global,
         program: &'a Program<'a>,
@@ -78,7 +78,7 @@ impl<'a> OriginalRun<'a> {
             nodes,
             budget: budget.number(),
             steps: vec![in alloc; 0; nodes.number() as usize]?,
-            live: (0..nodes.number()).collect(alloc)?,
+            live: (0..nodes.as_u8()).collect(alloc)?,
         })
     }
 
@@ -175,7 +175,7 @@ impl<'a> OriginalRun<'a> {
             ≡ ends_by self.now.budget (state_of self.now.machine) self.now.nodes) }
     {
         let mut ends = Vec::new(alloc);
-        for p in 0..self.nodes.number() {
+        for p in 0..self.nodes.as_u8() {
             ends.push(end_of(self.machine.exit(p), self.budget))?;
         }
         Ok(ends)

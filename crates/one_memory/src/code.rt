@@ -8,10 +8,10 @@ use exec_map::Program;
 use micro_op::MicroOp;
 use std::alloc::{AllocError, Global};
 
-/// A stretch of words goes on over so many bytes that hold no code.
+/// A stretch of words goes on over at most this number of bytes that hold no code.
 const GAP: u32 = 4096;
 
-/// The micro-ops of words one behind the other. One that is slow may stand where there is no code.
+/// The micro-ops of words one after the other. One that is slow may stand where there is no code.
 #[derive(Drop)]
 pub struct CodeRegion {
     /// The index of the first word, which is its address by four.
@@ -23,7 +23,7 @@ pub struct CodeRegion {
 #[derive(Drop)]
 pub struct CodeTable {
     near: CodeRegion,
-    /// The stretches behind the first, ascending.
+    /// The stretches after the first, ascending.
     far: Vec<CodeRegion>,
 }
 

@@ -44,7 +44,7 @@ impl<'a> OneMemory<'a> {
         let memory = self.memory.copy(alloc)?;
         let code = self.code.copy(alloc)?;
         let mut processors = Vec::new(alloc);
-        for p in 0..self.nodes.number() {
+        for p in 0..self.nodes.as_u8() {
             processors.push(self.processors[p as usize].copy(alloc)?)?;
         }
         Ok(OneMemory {

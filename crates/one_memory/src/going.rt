@@ -35,7 +35,7 @@ impl Model for Going {
 }
 
 impl Going {
-    /// From the word with an index on, in a region, where so many words may follow.
+    /// From the word with an index on, in a region, where `left` words may follow.
     #[inline(always)]
     pub fn from(first: u32, count: usize, index: u32, left: u64) -> Going
         requires { left ≤ 2 ^ 62 }

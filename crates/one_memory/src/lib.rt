@@ -59,7 +59,7 @@ impl From<AllocError> for StepRefused {
 }
 
 /// What happens next on the one memory.
-#[derive(Clone, Copy, Debug, PartialEq, Eq)]
+#[derive(Clone, Copy, PartialEq, Eq)]
 pub enum Pick {
     /// The processor of this number makes a step.
     Step(u8),
@@ -98,7 +98,7 @@ impl<'a> Model for OneMemory<'a> {
 }
 
 impl<'a> OneMemory<'a> {
-    /// So many processors of a program, whose shared lines have these blocks, at the start.
+    /// The processors of a program, whose shared lines have these blocks, at the start.
     pub fn new(
         alloc: Global,
         program: &'a Program<'_>,
@@ -114,7 +114,7 @@ impl<'a> OneMemory<'a> {
         let code = CodeTable::read(alloc, program)?;
         let memory = Memory::new(alloc, program, layout)?;
         let mut processors = Vec::new(alloc);
-        for p in 0..nodes.number() {
+        for p in 0..nodes.as_u8() {
             processors.push(Processor::new(alloc, p, nodes, entry)?)?;
         }
         Ok(OneMemory {
@@ -190,7 +190,7 @@ impl<'a> OneMemory<'a> {
         self.processors[q as usize].is_storing(&self.memory, block)
     }
 
-    /// Executes so many instructions and steps of calls of processor `p`, or fewer where it ends.
+    /// Executes `most` instructions and steps of calls of processor `p`, or fewer where it ends.
     /// Gives how many. Fails only where memory runs out.
     pub fn run_alone(&mut self, p: u8, most: u64) -> Result<u64, AllocError>
         requires node { p < (original_of self.old).nodes }

@@ -55,7 +55,7 @@ pub enum StepTarget {
 }
 
 impl Processor {
-    /// Processor `number` of so many at the start, at the entry.
+    /// Processor `number` of `nodes` at the start, at the entry.
     pub fn new(
         alloc: Global,
         number: u8,
@@ -70,7 +70,7 @@ impl Processor {
         Ok(Processor {
             at: entry / 4,
             body: OriginalState {
-                registers: Registers::first(number, nodes.number()),
+                registers: Registers::first(number, nodes.as_u8()),
                 window: Window::zeros(alloc)?,
                 written: 0,
             },

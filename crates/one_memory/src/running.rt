@@ -43,7 +43,7 @@ impl Processor {
         self.step_apart(p, memory)
     }
 
-    /// Executes so many words, as processor `p`, or fewer where it ends. Gives how many.
+    /// Executes `most` words, as processor `p`, or fewer where it ends. Gives how many.
     pub fn run(
         &mut self,
         p: u8,
@@ -74,7 +74,7 @@ impl Processor {
         Ok(most)
     }
 
-    /// Executes words of one region, while their micro-ops serve them, and at most so many. Gives
+    /// Executes words of one region, while their micro-ops serve them, and at most `most`. Gives
     /// how many.
     fn run_served(&mut self, p: u8, code: &CodeTable, memory: &mut Memory<'_>, most: u64) -> u64
         requires code { IsCodeOf memory.old.program code.now }

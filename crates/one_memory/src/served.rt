@@ -15,8 +15,8 @@ use rv32_decode::{Cond, LoadKind, Op, Reg, Width};
 use rv32_ops::{alu, extend, taken};
 use rv32_step::{Demand, Registers};
 
-/// Executes words of a region from a place on, while their micro-ops serve them, and at most so
-/// many. Gives the place where it stops.
+/// Executes words of a region from a place on, while their micro-ops serve them, as far as there
+/// are words left. Gives the place where it stops.
 #[inline(never)]
 pub fn run_region(
     p: u8,

@@ -17,7 +17,7 @@ use rv32_decode::{Imm12, Instr, Reg, Width};
 pub const FLAG_WORD: u32 = 0xffff_ff03;
 
 /// A word of rewritten code.
-#[derive(Clone, Copy, Debug, PartialEq, Eq)]
+#[derive(Clone, Copy, PartialEq, Eq)]
 pub enum RtWord {
     /// An instruction of the original machine.
     Native(Instr),

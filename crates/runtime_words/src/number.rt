@@ -6,7 +6,7 @@ ghost use Rattle.runtime_words.specs.Reading.{far_number};
 use std::marker::Model;
 
 /// The number of a word of rewritten code, below 2^22. Word 0 is the first.
-#[derive(Clone, Copy, Debug, PartialEq, Eq)]
+#[derive(Clone, Copy, PartialEq, Eq)]
 pub struct WordNumber {
     value: u32,
 }

@@ -159,7 +159,7 @@ pub fn imm_of_bits(bits: u32) -> Imm12
     }
 }
 
-/// The width of which this is the logarithm.
+/// The width that has this logarithm.
 fn width_of(logarithm: u8) -> Option<Width>
     ensures { result ≡ width_of_log logarithm }
 {

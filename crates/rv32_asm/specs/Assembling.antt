@@ -30,7 +30,7 @@ HasText all address (Conditional c rs1 rs2 to) word =
     (given : Target) × IsResolved all to given
     × (text_of_word address word ≡ written_text (Conditional c rs1 rs2 given))
 
--- the word of an instruction behind other statements
+-- the word of an instruction after other statements
 pub record IsWordOf (all before : List Statement) (w : Written) (word : ℕ) : Type 0 where
   pub address : ℕ
   pub stands : here (place_behind before) ≡ Some address

@@ -52,7 +52,7 @@ with_zeros count o = record {
   is_closed = true;
 }
 
--- the place behind so many bytes more
+-- the place after so many bytes more
 abbrev pub appended_to : SegmentsSoFar → Option ℕ → SegmentsSoFar
 appended_to p None = p
 appended_to p (Some count) = record {
@@ -61,7 +61,7 @@ appended_to p (Some count) = record {
   last = option_map (with_bytes count) p.last;
 }
 
--- the place behind a statement
+-- the place after a statement
 abbrev pub behind : SegmentsSoFar → Statement → SegmentsSoFar
 behind p (Segment flags start) = record {
   segments = p.segments + 1;
@@ -79,7 +79,7 @@ abbrev pub behind_all : SegmentsSoFar → List Statement → SegmentsSoFar
 behind_all p [] = p
 behind_all p (s ∷ ss) = behind_all (behind p s) ss
 
--- the place behind the first statements of a text
+-- the place after the first statements of a text
 abbrev pub place_behind : List Statement → SegmentsSoFar
 place_behind statements = behind_all first_place statements
 
@@ -91,7 +91,7 @@ end_of o = o.start + o.bytes + o.zeros
 abbrev pub here : SegmentsSoFar → Option ℕ
 here p = option_map end_of p.last
 
--- the name's first line stands behind so many statements
+-- the name's first line stands after so many statements
 pub record IsLabelled (statements : List Statement) (name : List ℕ)
     (before : List Statement) : Type 0 where
   pub rest : List Statement

@@ -95,7 +95,7 @@ abbrev pub IsPastLimits : SegmentsSoFar → Type 0
 IsPastLimits p =
     IsSomeAnd p.last IsTooLong ⊎ ((999 < p.segments) ⊎ (2 ^ 24 < p.appended))
 
--- a statement of a text, behind those before it, breaks a rule
+-- a statement of a text, after those before it, breaks a rule
 abbrev pub BreaksRange : (all before : List Statement) → Statement → Type 0
 BreaksRange all before (Instruction w) = IsOutOfRange all (here (place_behind before)) w
 BreaksRange all before (Entry name) = (address : ℕ) × IsNamed all name address × (2 ^ 32 ≤ address)
@@ -141,7 +141,7 @@ pub record IsFirstBroken (all : List Statement) (r : AsmRule) (line : ℕ) : Typ
   pub lowest : (other : AsmRule) → number_of other < number_of r
       → Breaks all before statement other → ⊥
 
--- no statement breaks a rule, and there is no segment; the line is that behind the last
+-- no statement breaks a rule, and there is no segment; the line is that after the last
 pub record HasNoSegment (all : List Statement) (r : AsmRule) (line : ℕ) : Type 0 where
   pub rule_is : r ≡ rule.Empty
   pub line_is : line ≡ length all + 1

@@ -26,7 +26,7 @@ use std::alloc::{AllocError, Global};
 use std::marker::Model;
 
 /// A segment, and where its bytes stand among those that the lines append.
-#[derive(Clone, Copy, Debug)]
+#[derive(Clone, Copy)]
 struct AssembledSegment {
     flags: u32,
     start: u32,
@@ -36,7 +36,7 @@ struct AssembledSegment {
 }
 
 /// The executable of a text. Contracts see its fields, as those of a file.
-#[derive(Debug, Drop)]
+#[derive(Drop)]
 pub struct Assembled {
     entry: u32,
     /// The bytes that the lines append.

@@ -15,7 +15,7 @@ use rv32_lines::reading_law;
 use rv32_text::text_law;
 
 /// A text has one executable at most or one first fault at most, and never both. An instruction
-/// behind other lines has one word at most.
+/// after other lines has one word at most.
 pub fn assembling_law()
     ensures words { (all before : List Statements) (w : Written) (a b : ℕ) → IsWritten w
         → IsWordOf all before w a → IsWordOf all before w b → a ≡ b }

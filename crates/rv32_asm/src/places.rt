@@ -116,7 +116,7 @@ impl SegmentsSoFar {
         }
     }
 
-    /// The place behind a statement.
+    /// The place after a statement.
     pub(crate) fn behind(self, statement: &Statement<'_>) -> SegmentsSoFar
         requires { counted self < 2 ^ 127 }
         ensures value { (s : Statements) → IsReadStatement statement.now s
@@ -152,7 +152,7 @@ impl SegmentsSoFar {
         }
     }
 
-    /// The place behind zeros.
+    /// The place after zeros.
     fn with_zeros(self, count: u128) -> SegmentsSoFar
         requires room { counted self < 2 ^ 127 }
         requires low { count ≤ 2 ^ 62 }
@@ -170,7 +170,7 @@ impl SegmentsSoFar {
         }
     }
 
-    /// The place behind bytes.
+    /// The place after bytes.
     fn with_bytes(self, count: u128) -> SegmentsSoFar
         requires room { counted self < 2 ^ 127 }
         requires low { count ≤ 2 ^ 62 }

@@ -14,7 +14,7 @@ pub enum AsmRule {
     /// A name that is used stands on one name line, and there is one entry at most.
     Name,
     /// What appends, names or adds stands in a segment, words stand at multiples of 4, and nothing
-    /// is appended behind zeros.
+    /// is appended after zeros.
     Place,
     /// The segment ends at 2^32 or below, there are at most 999 segments, and at most 2^24 bytes
     /// are appended.

@@ -6,7 +6,8 @@
 //! ways, and at most one row fits a word ([`rows_law`]). The ranges of an instruction's parts are
 //! in their types.
 //!
-//! An instruction that is used more than once is passed from behind a reference, as `uses(*i)`.
+//! An instruction that is used more than once is passed as a copy of what a reference leads to, as
+//! `uses(*i)`.
 
 mod decoding;
 mod encoding;
@@ -75,7 +76,7 @@ pub enum Op {
 }
 
 /// An operation of OP-IMM that has a 12-bit immediate.
-#[derive(Clone, Copy, Debug, PartialEq, Eq)]
+#[derive(Clone, Copy, PartialEq, Eq)]
 pub enum ImmOp {
     Add,
     Slt,
@@ -86,7 +87,7 @@ pub enum ImmOp {
 }
 
 /// A shift of OP-IMM.
-#[derive(Clone, Copy, Debug, PartialEq, Eq)]
+#[derive(Clone, Copy, PartialEq, Eq)]
 pub enum ShiftOp {
     Sll,
     Srl,
@@ -108,7 +109,7 @@ pub enum AmoOp {
 }
 
 /// A word that is accepted as an illegal instruction.
-#[derive(Clone, Copy, Debug, PartialEq, Eq)]
+#[derive(Clone, Copy, PartialEq, Eq)]
 pub enum IllegalWord {
     /// 00000000
     Zeros,
@@ -119,7 +120,7 @@ pub enum IllegalWord {
 }
 
 /// An instruction of RV32IMA. `aq` and `rl` are bits 26 and 25 of an atomic instruction.
-#[derive(Clone, Copy, Debug, PartialEq, Eq)]
+#[derive(Clone, Copy, PartialEq, Eq)]
 pub enum Instr {
     Lui {
         rd: Reg,

@@ -7,7 +7,7 @@ ghost use Rattle.rv32_decode.specs.Fields.{field, imm_i, imm_s, imm_b, imm_j, si
 use std::marker::Model;
 
 /// A register, x0 to x31.
-#[derive(Clone, Copy, Debug, PartialEq, Eq)]
+#[derive(Clone, Copy, PartialEq, Eq)]
 pub struct Reg {
     number: u8,
 }
@@ -77,7 +77,7 @@ impl Reg {
 }
 
 /// The upper 20 bits of a word, as LUI and AUIPC have them.
-#[derive(Clone, Copy, Debug, PartialEq, Eq)]
+#[derive(Clone, Copy, PartialEq, Eq)]
 pub struct Upper {
     value: u32,
 }
@@ -120,7 +120,7 @@ impl Upper {
 }
 
 /// A signed number of 12 bits: -2048 to 2047.
-#[derive(Clone, Copy, Debug, PartialEq, Eq)]
+#[derive(Clone, Copy, PartialEq, Eq)]
 pub struct Imm12 {
     value: i32,
 }
@@ -192,7 +192,7 @@ impl Imm12 {
 }
 
 /// The even distance of a branch: -4096 to 4094 bytes.
-#[derive(Clone, Copy, Debug, PartialEq, Eq)]
+#[derive(Clone, Copy, PartialEq, Eq)]
 pub struct BranchOffset {
     value: i32,
 }
@@ -264,7 +264,7 @@ impl BranchOffset {
 }
 
 /// The even distance of a JAL: -1048576 to 1048574 bytes.
-#[derive(Clone, Copy, Debug, PartialEq, Eq)]
+#[derive(Clone, Copy, PartialEq, Eq)]
 pub struct JumpOffset {
     value: i32,
 }
@@ -336,7 +336,7 @@ impl JumpOffset {
 }
 
 /// The amount of a shift by an immediate: 0 to 31 bits.
-#[derive(Clone, Copy, Debug, PartialEq, Eq)]
+#[derive(Clone, Copy, PartialEq, Eq)]
 pub struct Amount {
     value: u8,
 }
@@ -381,7 +381,7 @@ impl Amount {
 }
 
 /// Bits 31 to 20 of a FENCE: its fence mode, predecessors and successors.
-#[derive(Clone, Copy, Debug, PartialEq, Eq)]
+#[derive(Clone, Copy, PartialEq, Eq)]
 pub struct FenceBits {
     value: u16,
 }
@@ -425,7 +425,7 @@ impl FenceBits {
     }
 }
 
-/// A number read as two's complement, of which the top bit weighs `sign`.
+/// A number read as two's complement, whose top bit weighs `sign`.
 fn extended(number: u32, sign: u32) -> i32
     requires fits { number < 2 * sign }
     requires small { sign ≤ 2 ^ 20 }

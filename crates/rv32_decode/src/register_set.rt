@@ -6,7 +6,7 @@ use crate::parts::Reg;
 use std::marker::Model;
 
 /// A set of registers, seen as a number whose bit `r` says whether register `r` is a member.
-#[derive(Clone, Copy, Debug, PartialEq, Eq)]
+#[derive(Clone, Copy, PartialEq, Eq)]
 pub struct RegSet {
     bits: u32,
 }

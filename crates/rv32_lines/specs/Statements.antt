@@ -78,7 +78,7 @@ pub record SaysWord (line : List ℕ) (word : ℕ) : Type 0 where
   pub line_is : line ≡ codes ".word 0x" ++ word_digits word
   pub low : word < 2 ^ 32
 
--- a name with what stands before it and behind it
+-- a name with what stands before it and after it
 pub record SaysName (front name end line : List ℕ) : Type 0 where
   pub line_is : line ≡ front ++ (name ++ end)
   pub named : is_name name ≡ true

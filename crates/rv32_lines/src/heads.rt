@@ -2,7 +2,7 @@
 
 ghost use Rattle.std.specs.Prelude.{◌≡◌, ℕ, ◌++◌, List, IfSome, MatchOption};
 
-/// What stands behind a word.
+/// What stands after a word.
 pub(crate) fn behind<'a>(text: &'a [u8], word: &[u8]) -> Option<&'a [u8]>
     ensures some { IfSome result (λ r. text.now ≡ word.now ++ r.now) }
     ensures only { (rest : List ℕ) → text.now ≡ word.now ++ rest

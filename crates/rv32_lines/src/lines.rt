@@ -22,7 +22,7 @@ fn split_at_feed(text: &[u8]) -> (&[u8], &[u8])
     text.split_at(end)
 }
 
-/// The first line of a text, and what stands behind its line feed.
+/// The first line of a text, and what stands after its line feed.
 #[tactic(auto, using(crate::proofs::LinesOf::only_line, crate::proofs::LinesOf::first_line, crate::proofs::LinesOf::first_shorter))]
 fn split_line(text: &[u8]) -> (&[u8], &[u8])
     requires { 0 < length text.now }
@@ -36,7 +36,7 @@ fn split_line(text: &[u8]) -> (&[u8], &[u8])
     }
 }
 
-/// What the lines of a text say. Behind a last line feed there is no line.
+/// What the lines of a text say. After a last line feed there is no line.
 pub fn statements_of(alloc: Global, text: &[u8]) -> Result<Vec<Statement<'_>>, AllocError>
     ensures { IfOk result (λ v. (statements : List Statements) × IsReading text.now statements
         × AreReadStatements v.items statements) }

@@ -14,14 +14,14 @@ fn is_letter(byte: u8) -> bool
     b'a' <= byte && byte <= b'z'
 }
 
-/// Whether a byte may stand in a name behind its first.
+/// Whether a byte may stand in a name after its first.
 fn is_name_byte(byte: u8) -> bool
     ensures { result ≡ is_name_byte byte }
 {
     is_letter(byte) || (b'0' <= byte && byte <= b'9') || byte == b'_'
 }
 
-/// Whether all bytes may stand in a name behind its first.
+/// Whether all bytes may stand in a name after its first.
 fn are_name_bytes(text: &[u8]) -> bool
     ensures { result ≡ list_all is_name_byte text.now }
 {

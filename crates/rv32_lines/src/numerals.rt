@@ -65,7 +65,7 @@ pub(crate) fn are_digits(text: &[u8], base: Base) -> bool
     text.iter().all(|byte| base.has(*byte))
 }
 
-/// The digits at the head of a text, and what stands behind them.
+/// The digits at the head of a text, and what stands after them.
 #[tactic(auto, using(crate::proofs::Cutting::all_more, crate::proofs::Cutting::ends_at, crate::proofs::Cutting::ends_last))]
 fn split_digits(text: &[u8], base: Base) -> (&[u8], &[u8])
     ensures parts { text.now ≡ result.0.now ++ result.1.now }
@@ -105,7 +105,7 @@ fn has_no_zero(digits: &[u8]) -> bool
     }
 }
 
-/// The number at the head of a text, without leading zeros, and what stands behind its digits.
+/// The number at the head of a text, without leading zeros, and what stands after its digits.
 pub(crate) fn numeral_then(text: &[u8], base: Base) -> Option<(u32, &[u8])>
     ensures some { IfSome result (λ p. (n : ℕ) × (p.0 ≡ capped n)
         × IsNumeralThen base text.now n p.1.now) }

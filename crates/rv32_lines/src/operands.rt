@@ -47,7 +47,7 @@ fn register_then(text: &[u8]) -> Option<(u32, &[u8])>
     numeral_then(digits, Base::Decimal)
 }
 
-/// `xR`, and nothing behind it.
+/// `xR`, and nothing after it.
 fn register(text: &[u8]) -> Option<u32>
     ensures some { IfSome result (λ n. (r : ℕ) × (n ≡ capped r) × (text.now ≡ register r)) }
     ensures only { (r : ℕ) → text.now ≡ register r → result ≡ Some (capped r) }
@@ -82,7 +82,7 @@ fn base(text: &[u8]) -> Option<u32>
     }
 }
 
-/// A number below zero behind its sign, and what stands behind it.
+/// A number below zero after its sign, and what stands after it.
 fn negative_then(digits: &[u8]) -> Option<(i64, &[u8])>
     ensures some { IfSome result (λ p. (n : ℕ) × (p.0 ≡ clipped (negsuc n))
         × IsNumeralThen Decimal digits.now (suc n) p.1.now) }
@@ -96,7 +96,7 @@ fn negative_then(digits: &[u8]) -> Option<(i64, &[u8])>
     Some((-i64::from(number), rest))
 }
 
-/// A signed number, and what stands behind it.
+/// A signed number, and what stands after it.
 fn signed_then(text: &[u8]) -> Option<(i64, &[u8])>
     ensures some { IfSome result (λ p. (z : ℤ) × (p.0 ≡ clipped z)
         × IsSignedThen text.now z p.1.now) }
@@ -110,7 +110,7 @@ fn signed_then(text: &[u8]) -> Option<(i64, &[u8])>
     Some((i64::from(number), rest))
 }
 
-/// A signed number, and nothing behind it.
+/// A signed number, and nothing after it.
 fn signed(text: &[u8]) -> Option<i64>
     ensures some { IfSome result (λ i. (z : ℤ) × (i ≡ clipped z)
         × (text.now ≡ signed_numeral z)) }
@@ -120,7 +120,7 @@ fn signed(text: &[u8]) -> Option<i64>
     if rest.is_empty() { Some(number) } else { None }
 }
 
-/// A number, and nothing behind it.
+/// A number, and nothing after it.
 fn numeral(text: &[u8], base: Base) -> Option<u32>
     ensures some { IfSome result (λ i. (n : ℕ) × (i ≡ capped n)
         × (text.now ≡ numeral (radix base) n)) }
@@ -151,7 +151,7 @@ fn indexed_by(text: &[u8]) -> Option<Indexed>
     Some(Indexed { imm, base })
 }
 
-/// The target of digits behind `0x`: eight or more.
+/// The target of digits after `0x`: eight or more.
 fn address_of(digits: &[u8]) -> Option<Target<'_>>
     ensures some { IfSome result (λ t. IsReadTarget t (Address digits.now)
         × IsTarget (Address digits.now)) }

@@ -195,7 +195,7 @@ fn entry(name: &[u8]) -> Option<Statement<'_>>
     }
 }
 
-/// The permissions of a segment, and what stands behind their word and a space.
+/// The permissions of a segment, and what stands after their word and a space.
 fn kind_then(text: &[u8]) -> Option<(u32, &[u8])>
     ensures some { IfSome result (λ p. (kind : List ℕ) × IsKind kind p.0
         × (text.now ≡ kind ++ (codes " " ++ p.1.now))) }

@@ -1,6 +1,6 @@
 //! The address map: where a program's memory ends, and what rewritten code has above it.
 
-/// The address behind the last byte of a program's memory.
+/// The address after the last byte of a program's memory.
 pub const MEMORY_END: u32 = 0x8000_0000;
 
 /// The address of the state byte of line 0: the state table begins where memory ends. The bytes of

@@ -17,14 +17,14 @@ pub enum Class {
     Shared,
     /// In another segment: it holds the original bytes.
     ReadOnly,
-    /// In the window 0x7fff0000 to 0x7fffffff, of which each processor has its own.
+    /// In the window 0x7fff0000 to 0x7fffffff, where each processor has bytes of its own.
     Private,
     Unmapped,
 }
 
 /// How a processor's run ended by itself. An address is that of the instruction, or the pc for
 /// `Fetch`.
-#[derive(Clone, Copy, Debug, PartialEq, Eq)]
+#[derive(Clone, Copy, PartialEq, Eq)]
 pub enum Exit {
     /// The exit call, with the low 8 bits of a0.
     Code(u8),
@@ -37,15 +37,15 @@ pub enum Exit {
 }
 
 /// How a processor ended.
-#[derive(Clone, Copy, Debug, PartialEq, Eq)]
+#[derive(Clone, Copy, PartialEq, Eq)]
 pub enum End {
     Exited(Exit),
-    /// It was stopped after so many words, without an exit.
+    /// The budget stopped it, after this number of words, or of steps of the original by `one`.
     Stopped(u64),
 }
 
 /// The call that a number names.
-#[derive(Clone, Copy, Debug, PartialEq, Eq)]
+#[derive(Clone, Copy, PartialEq, Eq)]
 pub enum CallKind {
     /// Writes bytes to file 1 or 2.
     Write,

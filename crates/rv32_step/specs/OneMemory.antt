@@ -26,8 +26,8 @@ use Rattle.rv32_step.specs.Memory.{load_value, byte_by, shared_after, private_af
 use Rattle.rv32_step.specs.Reservations.{with_reservation, after_store_by}
 use Rattle.rv32_step.specs.Breaks.{stands_at_store, RunsToStore}
 
--- what runs on the one memory: a program, whose shared lines have these blocks, on so many
--- processors
+-- what runs on the one memory: a program, whose shared lines have these blocks; its `nodes` are how
+-- many processors there are, and those of the layout how many nodes
 pub record Original : Type 0 where
   pub program : Program
   pub layout : Shape

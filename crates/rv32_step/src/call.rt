@@ -8,7 +8,7 @@ use crate::{CallStep, Registers};
 use rv32_decode::Reg;
 use rv32_program::{CallKind, call_of};
 
-/// One step of a call, where a write in progress has written so many bytes.
+/// One step of a call, where a write in progress has written `written` bytes.
 pub fn call_step(registers: &Registers, written: u32) -> CallStep
     ensures value { result ≡ model.call_step (registers_of registers.now) written }
     ensures room { (a : ℕ) → result ≡ CallStep.Puts a → written + 1 < 2 ^ 32 }
@@ -43,7 +43,7 @@ fn failure(code: u8) -> u32
     u32::MAX - (u32::from(code) - 1)
 }
 
-/// The result of a write that has written so many bytes, and whose next byte isn't mapped.
+/// The result of a write that has written `written` bytes, and whose next byte isn't mapped.
 pub fn cut_short(written: u32) -> u32
     ensures { result ≡ model.cut_short written }
 {

@@ -13,7 +13,7 @@ use rv32_decode::{AmoOp, LoadKind, Reg, Width};
 use rv32_program::Exit;
 
 /// What an instruction asks for, apart from any memory.
-#[derive(Clone, Copy, Debug, PartialEq, Eq)]
+#[derive(Clone, Copy, PartialEq, Eq)]
 pub enum Demand {
     /// The register gets the value, and the next instruction follows.
     Sets(Reg, u32),
@@ -43,7 +43,7 @@ pub enum Demand {
 }
 
 /// One step of an environment call.
-#[derive(Clone, Copy, Debug, PartialEq, Eq)]
+#[derive(Clone, Copy, PartialEq, Eq)]
 pub enum CallStep {
     /// The processor ends with this code.
     Ends(u8),

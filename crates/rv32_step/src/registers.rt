@@ -23,7 +23,7 @@ impl Model for Registers {
 }
 
 impl Registers {
-    /// What a processor of so many begins with.
+    /// What a processor begins with, where there are `processors`.
     pub fn first(processor: u8, processors: u8) -> Registers
         ensures { result ≡ first_values processor processors }
     {

@@ -4,4 +4,3 @@ pub mod PassLemmas
 pub mod CountingLemmas
 pub mod TallyLemmas
 pub mod SteppingLemmas
-pub use Rattle.node_words.proofs as words

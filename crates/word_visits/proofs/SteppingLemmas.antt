@@ -11,8 +11,8 @@ use Rattle.node_words.specs.Kept.{Follows}
 use Rattle.node_words.specs.Runs.{numbers_from, reads_other}
 use Rattle.node_words.specs.Strides.{Stays}
 use Rattle.node_words.specs.UndoLogs.{StaysUndoable}
-use Rattle.node_words.proofs.UndoLogLemmas.{undoable_both, undoable_same}
-use Rattle.node_words.proofs.WordLemmas.{body_starts, goes_none}
+use Rattle.node_words.proofs.UndoLogLemmas.{undoable_both}
+use Rattle.node_words.proofs.WordLemmas.{goes_none}
 use Rattle.word_visits.specs.declared.visit.Visit.{Visit}
 use Rattle.word_visits.specs.Counting.{PassesBy, numbers_passed}
 use Rattle.word_visits.specs.Entries.{looks_in, visits_in}
@@ -22,7 +22,7 @@ use Rattle.word_visits.specs.Sums.{tallies_in}
 use Rattle.word_visits.proofs.CountingLemmas.{goes_further}
 use Rattle.word_visits.proofs.PassLemmas.{numbers_join, outcome_of, word_passes}
 use Rattle.word_visits.proofs.TableLemmas.{length_visits, looks_said}
-use Rattle.word_visits.proofs.TallyLemmas.{body_steps, length_tallies, looks_tallied, no_steps, steps_append}
+use Rattle.word_visits.proofs.TallyLemmas.{body_steps, length_tallies, looks_tallied, steps_append}
 use Rattle.word_visits.proofs.VisitLemmas.{length_append, length_numbers}
 
 -- what entries and sums say
@@ -48,29 +48,6 @@ pub record HasStepped (image : List Cell) (most from : ℕ) (b0 : ExecState) (es
   pub ground : ground_of b.local ≡ ground_of b0.local
   pub counts : b.counts ≡ b0.counts
   pub undoable : StaysUndoable b0 b
-
--- none yet
-pub stepping_starts : (image : List Cell) (most from : ℕ) (b : ExecState) (es : List Visit) (ss : List ℕ) → from < 2 ^ 32
-    → HasStepped image most from b es ss (record { at = from; left = most }) from 0 b
-stepping_starts image most from b es ss low =
-    let ts = tallies_by es ss in
-    let none : 0 ≡ most - most = omega arith in
-    let here : 0 ≡ from - from = omega arith in
-    let all : 0 ≡ 0 + steps_from es ss from from =
-    let same : 0 ≡ steps_from es ss from from = ap (λ (k : ℕ). steps_among ts (numbers_from from k)) here in omega (arith, same) in
-    record {
-      words = subst (λ (n : ℕ). BodyGoesOn image most from b n from b) none (body_starts image most from b);
-      counted = subst (λ (n : ℕ). BodyHasSteps image most from b n ts (0 + steps_from es ss from from)) none
-          (subst (BodyHasSteps image most from b 0 ts) all (no_steps image most from b ts));
-      few = omega arith;
-      start = omega arith;
-      within = λ some. absurd (omega (arith, some));
-      left = omega arith;
-      low = low;
-      ground = refl;
-      counts = refl;
-      undoable = undoable_same b;
-    }
 
 -- how many words count with those of a stride
 passed_steps : (image : List Cell) (most from behind s u : ℕ) (here to : Going) (first b b' : ExecState)

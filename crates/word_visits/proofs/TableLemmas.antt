@@ -1,10 +1,10 @@
 -- Entries of a table of visits, and the stretches that they count.
-use Rattle.std.proofs.Common.{◌≡◌, ℕ, zero, suc, ◌+◌, ◌-◌, ◌<◌, ◌≤◌, Bool, true, Option, Some, None, List, [], ◌∷◌, ◌++◌, length, map, set, take, drop, inl, inr, refl, sym, ap, ◌∙◌, subst, arith, append_assoc, append-nil}
+use Rattle.std.proofs.Common.{◌≡◌, ℕ, zero, suc, ◌+◌, ◌-◌, ◌<◌, ◌≤◌, Bool, true, Option, Some, None, List, [], ◌∷◌, ◌++◌, length, map, set, take, drop, inl, inr, refl, sym, ap, ◌∙◌, subst, arith}
 use Rattle.std.specs.Prelude.{◌⊎◌, nat_le, slice_index_or}
 use Rattle.std.proofs.Math.Seq.{take-append_seam}
 use Rattle.std.proofs.lemmas.Bool.{and_from, and_parts}
 use Rattle.std.proofs.lemmas.Bool.Decides.{eqb_tells, nat_tests}
-use Rattle.std.proofs.lemmas.List.{drop_all, get_or_append_left, get_or_default, get_or_push, length-set, length_push}
+use Rattle.std.proofs.lemmas.List.{get_or_append_left, get_or_default, get_or_push, length-set, length_push}
 use Rattle.std.proofs.lemmas.Option.{slice_get-get_or, slice_get_within}
 use Rattle.node_words.specs.jump_map.Strides.{HasStrides, IsStride}
 use Rattle.node_words.specs.micro_op.declared.micro_op.MicroOp.{MicroOp}
@@ -340,10 +340,6 @@ same_free looks also ks same free = λ k d below.
 pub free_short : (looks : ℕ → Bool) (ks : List StrideKind) → AreFree looks ks → AreShort ks
 free_short looks ks free = λ k d below. (free k d below).short
 
--- no word looks
-pub none_look : (ks : List StrideKind) → AreShort ks → AreFree (looks_in []) ks
-none_look ks short = λ k d below. record { short = short k d below; free = λ x low high is. absurd (cc) }
-
 pub slowed_none : (ks : List StrideKind) → AreSlowedTo ks ks
 slowed_none ks = record { count = refl; each = λ k d below. inr refl }
 
@@ -374,13 +370,6 @@ pub record AreShortened (number : ℕ) (old new : List StrideKind) : Type 0 wher
   pub each : (k : ℕ) (d : StrideKind) → k < length new → IsSlowedTo (slice_index_or old k d) (slice_index_or new k d)
   pub short : AreShort new
 
-pub none_shortened : (old : List StrideKind) → AreShortened 0 old []
-none_shortened old = record {
-  count = refl;
-  each = λ k d below. absurd (omega (arith, below));
-  short = λ k d below. absurd (omega (arith, below));
-}
-
 pub next_shortened : (number : ℕ) (old new : List StrideKind) (kind x : StrideKind) → number < length old
     → IsSlowedTo (slice_index_or old number x) kind → ((at : ℕ) → (trail_of kind at).reach ≤ 22)
     → AreShortened number old new → AreShortened (number + 1) old (new ++ kind ∷ [])
@@ -409,10 +398,6 @@ next_shortened number old new kind x inside slowed short are =
             subst (λ (q : StrideKind). (trail_of q k).reach ≤ 22) (sym (before k d within)) (are.short k d within)
       ];
     }
-
-pub all_shortened : (number : ℕ) (old new : List StrideKind) → length old ≡ number → AreShortened number old new
-    → AreSlowedTo old new
-all_shortened number old new all are = record { count = are.count ∙ sym all; each = are.each }
 
 -- one of them is made slow
 
@@ -578,13 +563,6 @@ put_back new rest n count = ap (λ (k : ℕ). take k (new ++ rest)) (sym count) 
 abbrev pub times_in : (b d : ℕ) → List Visit → List ℕ
 times_in b d es = map (λ (v : WordVisits). v.times) (visits_in b d es)
 
-drop_step : (es : List Visit) (k : ℕ) (d : Visit) → k < length es → drop k es ≡ slice_index_or es k d ∷ drop (k + 1) es
-drop_step [] k d below = absurd (omega (arith, below))
-drop_step (e ∷ es) zero d below = refl
-drop_step (e ∷ es) (suc k) d below =
-    let next : suc k + 1 ≡ suc (k + 1) = omega arith in
-    drop_step es k d (omega (arith, below)) ∙ ap (λ (i : ℕ). slice_index_or es k d ∷ drop i (e ∷ es)) (sym next)
-
 -- so many entries are summed, and the others are left
 pub record AreSummed (behind number b d : ℕ) (es : List Visit) (ts : List ℕ) : Type 0 where
   pub times : ts ++ times_in b d (drop number es) ≡ times_in 0 0 es
@@ -593,41 +571,3 @@ pub record AreSummed (behind number b d : ℕ) (es : List Visit) (ts : List ℕ)
 
 pub none_summed : (behind : ℕ) (es : List Visit) → AreOrdered 0 0 behind es → AreSummed behind 0 0 0 es []
 none_summed behind es ordered = record { times = refl; ordered = ordered; begun = omega arith }
-
--- the next one
-pub next_fits : (behind number b d : ℕ) (es : List Visit) (ts : List ℕ) (x : Visit) → number < length es
-    → AreSummed behind number b d es ts
-    → (b + (slice_index_or es number x).begun ≤ begun_in es)
-    × (d + (slice_index_or es number x).ended ≤ b + (slice_index_or es number x).begun)
-next_fits behind number b d es ts x below are =
-    let step = drop_step es number x below in
-    let sum = ap begun_in step in
-    let ordered = subst (AreOrdered b d behind) step are.ordered in
-    let begun = are.begun in
-    (omega (arith, sum, begun), ordered.0)
-
-pub next_summed : (behind number b d b' d' : ℕ) (es : List Visit) (ts us : List ℕ) (x : Visit) → number < length es
-    → b' ≡ b + (slice_index_or es number x).begun → d' ≡ d + (slice_index_or es number x).ended
-    → us ≡ ts ++ (b' - d') ∷ [] → AreSummed behind number b d es ts → AreSummed behind (number + 1) b' d' es us
-next_summed behind number b d b' d' es ts us x below begun ended is are =
-    let e = slice_index_or es number x in
-    let rest = drop (number + 1) es in
-    let step = drop_step es number x below in
-    let ordered = subst (AreOrdered b d behind) step are.ordered in
-    let sum = ap begun_in step in
-    let before = are.begun in
-    record {
-      times = ap (λ (xs : List ℕ). xs ++ times_in b' d' rest) is
-          ∙ (λ t. (ts ++ (begun t - ended t) ∷ []) ++ times_in (begun t) (ended t) rest)
-          ∙ append_assoc ts ((b + e.begun - (d + e.ended)) ∷ []) (times_in (b + e.begun) (d + e.ended) rest)
-          ∙ sym (ap (λ (ys : List Visit). ts ++ times_in b d ys) step) ∙ are.times;
-      ordered = subst (λ (y : ℕ). AreOrdered b' y behind rest) (sym ended)
-          (subst (λ (y : ℕ). AreOrdered y (d + e.ended) behind rest) (sym begun) ordered.1);
-      begun = omega (arith, sum, before, begun);
-    }
-
-pub all_summed : (behind number b d : ℕ) (es : List Visit) (ts : List ℕ) → length es ≤ number
-    → AreSummed behind number b d es ts → ts ≡ times_in 0 0 es
-all_summed behind number b d es ts past are =
-    let none : drop number es ≡ [] = drop_all number es past in
-    sym (append-nil ts) ∙ sym (ap (λ (ys : List Visit). ts ++ times_in b d ys) none) ∙ are.times

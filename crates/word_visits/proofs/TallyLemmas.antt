@@ -5,17 +5,19 @@ use Rattle.std.proofs.lemmas.Bool.Decides.{eqb_tells, nat_tests}
 use Rattle.std.proofs.lemmas.List.{get_or_append_left, get_or_default, get_or_push, length_push}
 use Rattle.node_words.specs.exec_map.Contents.{program_of}
 use Rattle.node_words.specs.jump_map.Image.{Cell, address_of_word, number_of_word}
-use Rattle.node_words.specs.node_model.Node.{Node, Work, can_execute}
+use Rattle.node_words.specs.node_model.Node.{Node, Running, Work, can_execute}
 use Rattle.node_words.specs.node_model.Turns.{word_turn}
 use Rattle.node_words.specs.node_memory.Shelf.{Ground, ground_of}
 use Rattle.node_words.specs.declared.exec_state.ExecState.{ExecState}
-use Rattle.node_words.specs.GoingOn.{BodyGoesOn, node_on}
+use Rattle.node_words.specs.GoingOn.{BodyGoesOn, BodyTells, node_on}
 use Rattle.node_words.specs.Runs.{AreWordsOf, GoesOnBy, numbers_from}
 use Rattle.word_visits.specs.Tallies.{AreTallied, IsTallied, WordTally, step_at, steps_among, steps_of, tally_at}
 use Rattle.word_visits.specs.TallyBodies.{BodyHasSteps, HaveSteps}
+use Rattle.word_visits.specs.TallyLoops.{HasCounted}
+use Rattle.word_visits.specs.TallyTables.{tallies_of}
+use Rattle.word_visits.specs.declared.counting.TallyLoop.{TallyLoop}
 use Rattle.word_visits.specs.Sums.{RiseByOne, tallies_in}
-use Rattle.word_visits.specs.Visits.{AreCounted, Counts, WordVisits, next_number, visited, visits_at}
-use Rattle.word_visits.proofs.VisitLemmas.{length_visited, looks_visited}
+use Rattle.word_visits.specs.Visits.{WordVisits, next_number, visits_at}
 
 -- 1. Sums that rise
 
@@ -233,10 +235,6 @@ have_both work j k t s r u n m ts sum steps on one two =
 
 -- 4. Bodies
 
-pub no_steps : (image : List Cell) (most from : ℕ) (b : ExecState) (ts : List WordTally)
-    → BodyHasSteps image most from b 0 ts 0
-no_steps image most from b ts = λ work n same program may room. record { tallied = tt; count = refl }
-
 -- words of these numbers, after others
 pub body_steps : (image : List Cell) (most from words at k t s u : ℕ) (ks : List ℕ) (b m : ExecState)
     (ts : List WordTally) (looks : ℕ → Bool) → words + k ≡ t → t ≤ most → length ks ≡ k → u ≡ s + steps_among ts ks
@@ -255,24 +253,22 @@ body_steps image most from words at k t s u ks b m ts looks sum few count steps 
     (subst (λ (x : ℕ). HaveSteps work x here ts (steps_among ts ks)) count
     (words_stepped work ks here ts looks same (subst (λ (cells : List Cell). length cells ≤ length ts) (sym is) long) words_are))
 
+-- words that are tallied tell it, where there may be more of them, too
+pub steps_tell : (image : List Cell) (few most from words steps : ℕ) (b : ExecState) (l m : TallyLoop) → few ≤ most
+    → m.tallies.now ≡ l.tallies.now → m.steps ≡ l.steps + steps → BodyHasSteps image few from b words (tallies_of l.tallies.now) steps
+    → BodyTells (λ work k n. HasCounted work k n l m) image most from b words
+steps_tell image few most from words steps b l m less same more have = record {
+  some = λ work n is program may room.
+      let one = have work n is program may (omega (arith, less, room)) in
+      let count = one.count in
+      record { same = same; tallied = one.tallied; count = omega (arith, more, count) };
+  none = λ zero work n.
+      let here : Work = record work { image = image; program = program_of b.local.program; budget = few + 1 } in
+      let runs : Node = record n { phase = Running; executed = 0 } in
+      let one = subst (λ (k : ℕ). HaveSteps here k (node_on runs b from 0) (tallies_of l.tallies.now) steps) zero
+      (have here runs refl refl refl (omega arith)) in
+      let count = one.count in
+      record { same = same; tallied = tt; count = omega (arith, more, count) };
+}
+
 -- 5. Tallied words are counted among visits of as many words, of which as many look
-
-pub record IsCountedTo (work : Work) (words : ℕ) (n : Node) (vs : List WordVisits) : Type 0 where
-  pub last : List WordVisits
-  pub counted : AreCounted work words n vs last
-
-pub tallied_counted : (work : Work) (k : ℕ) (n : Node) (ts : List WordTally) (vs : List WordVisits)
-    → length vs ≡ length ts → ((j : ℕ) → (visits_at vs j).looks ≡ (tally_at ts j).looks) → AreTallied work k n ts
-    → IsCountedTo work k n vs
-tallied_counted work zero n ts vs long same are = record { last = vs; counted = refl }
-tallied_counted work (suc k) n ts vs long same are =
-    let j = next_number n in
-    let within = are.0.within in
-    let rest = tallied_counted work k (word_turn work n).node ts (visited j vs) (length_visited vs j ∙ long)
-    (λ i. looks_visited vs i j ∙ same i) are.1 in
-    let one : Counts work n vs = record {
-      at = are.0.at;
-      within = omega (arith, within, long);
-      other = λ says. are.0.other (sym (same j) ∙ says);
-    } in
-    record { last = rest.last; counted = (one, rest.counted) }

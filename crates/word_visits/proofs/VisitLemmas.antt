@@ -11,12 +11,12 @@ use Rattle.node_words.specs.micro_op.declared.MicroKind.TheVariants.{LoadWord}
 use Rattle.node_words.specs.micro_op.Micro.{Demands, meaning_by, meaning_of, sum_address}
 use Rattle.node_words.specs.jump_map.Image.{Cell, address_of_word, image_base, most_words, number_of_word}
 use Rattle.node_words.specs.jump_map.Micro.{IsMicroAt}
-use Rattle.node_words.specs.node_model.Node.{Node, Work, can_execute, next_outcome}
+use Rattle.node_words.specs.node_model.Node.{Running, Node, Work, can_execute, next_outcome}
 use Rattle.node_words.specs.node_model.Turns.{word_turn}
 use Rattle.node_words.specs.node_memory.Shelf.{Ground, ground_of, local_of}
 use Rattle.node_words.specs.declared.exec_state.ExecState.{ExecState}
 use Rattle.node_words.specs.Address.{word_address}
-use Rattle.node_words.specs.GoingOn.{BodyGoesOn, node_on}
+use Rattle.node_words.specs.GoingOn.{BodyGoesOn, BodyTells, node_on}
 use Rattle.node_words.specs.Kept.{lane_of}
 use Rattle.node_words.specs.Runs.{AreWordsOf, GoesOnBy, numbers_from, reads_other}
 use Rattle.node_words.specs.Strides.{Gives}
@@ -110,6 +110,17 @@ body_counted image most from words at k t ks b m vs ws looks sum few count same 
     (are work n is program may room)
     (subst (λ (x : ℕ). AreCounted work x here ws (visited_all ks ws)) count
     (words_counted work ks here ws looks same (subst (λ (cells : List Cell). length cells ≤ length ws) (sym is) long) words_are))
+
+-- words that are counted tell it, where there may be more of them, too
+pub counted_tells : (image : List Cell) (few most from words : ℕ) (b : ExecState) (vs ws : List WordVisits) → few ≤ most
+    → BodyIsCounted image few from b words vs ws → BodyTells (λ work k n. AreCounted work k n vs ws) image most from b words
+counted_tells image few most from words b vs ws less counted = record {
+  some = λ work n is program may room. counted work n is program may (omega (arith, less, room));
+  none = λ zero work n.
+      let here : Work = record work { image = image; program = program_of b.local.program; budget = few + 1 } in
+      let runs : Node = record n { phase = Running; executed = 0 } in
+      subst (λ (k : ℕ). AreCounted here k (node_on runs b from 0) vs ws) zero (counted here runs refl refl refl (omega arith));
+}
 
 -- 3. What a word reads
 

@@ -17,7 +17,7 @@ BodyIsCounted image most from b words vs ws =
     → can_execute n.phase ≡ true → n.executed + most < work.budget
     → AreCounted work words (node_on n b from 0) vs ws
 
--- the numbers of a body's words, of which the last so many stand behind a jump
+-- the numbers of a body's words, of which the last so many stand after a jump
 abbrev pub numbers_passed : (behind : ℕ) → (from to : Going) → List ℕ
 numbers_passed behind from to =
     numbers_from from.at (from.left - to.left - behind) ++ numbers_from (to.at - behind) behind

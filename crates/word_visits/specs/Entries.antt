@@ -30,7 +30,7 @@ abbrev pub begun_in : List Visit → ℕ
 begun_in [] = 0
 begun_in (e ∷ es) = e.begun + begun_in es
 
--- at no entry more stretches ended than began before it; and so many end behind the last
+-- at no entry more stretches ended than began before it; and so many end after the last
 abbrev pub is_ordered : (begun ended behind : ℕ) → List Visit → Bool
 is_ordered b d behind [] = d + behind == b
 is_ordered b d behind (e ∷ es) =
@@ -73,6 +73,6 @@ ArePartedAt n kinds = (k : ℕ) (d : StrideKind) → k < length kinds → k ≤ 
     → n < k + (trail_of (slice_index_or kinds k d) k).reach
     → (trail_of (slice_index_or kinds k d) k).told ≡ Some n
 
--- how many words of the stride from a number on stand behind its jump
+-- how many words of the stride from a number on stand after its jump
 abbrev pub behind_at : List StrideKind → ℕ → ℕ
 behind_at kinds k = (trail_of (slice_index_or kinds k stride.Slow) k).behind

@@ -6,4 +6,4 @@ pub mod Tallies
 pub mod Sums
 pub mod TallyTables
 pub mod TallyBodies
-pub use Rattle.node_words.specs as node_words
+pub mod TallyLoops

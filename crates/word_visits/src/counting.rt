@@ -6,76 +6,91 @@ ghost use Rattle.node_words.specs.jump_map.Micro.{AreMicrosOf};
 ghost use Rattle.node_words.specs.jump_map.Strides.{HasStrides};
 ghost use Rattle.node_words.specs.node_memory.Shelf.{ground_of};
 ghost use Rattle.node_words.specs.GoingOn.{BodyGoesOn};
-ghost use Rattle.node_words.specs.UndoLogs.{StaysUndoable, TakesBack};
+ghost use Rattle.node_words.specs.UndoLogs.{StaysUndoable};
 ghost use Rattle.word_visits.specs.Entries.{AreFree, looks_in, visits_in};
 ghost use Rattle.word_visits.specs.TallyBodies.{BodyHasSteps};
-ghost use Rattle.word_visits.specs.TallyTables.{AreTalliesIn, tallies_of};
 ghost use Rattle.word_visits.specs.Sums.{RiseByOne, tallies_in};
 
 use crate::tallies::{Tallies, steps_between};
-use crate::visit::{StrideTables, Visit, behind_at};
+use crate::visit::{StrideTables, Visit, behind_at, most_counted};
 use crate::visiting::{pass_one, pass_stride};
 use node_words::jump_map::Image;
-use node_words::{ExecState, Going, UndoLog};
+use node_words::{ExecState, Going, Progress, WordLoop};
 
-/// What a run of words gives.
+/// What words that were executed one after another come to.
 #[derive(Clone, Copy, Debug, PartialEq, Eq)]
-pub struct Counted {
+struct Counted {
     /// The index of the next word.
-    pub at: u32,
+    at: u32,
     /// How many words were executed.
-    pub words: u64,
+    words: u64,
     /// How many of them count.
-    pub steps: u64,
+    steps: u64,
 }
 
-/// Executes words from an index on, as long as they are silent and tallied, and at most so many. A
-/// word isn't tallied that looks and reads the flag word; nor is any where the image has more words
-/// than the table.
-pub fn run_counting(
-    body: &mut ExecState<'_>,
-    image: &Image,
-    from: u32,
-    most: u64,
-    tallies: &Tallies,
-) -> Counted
-    requires few { length image.now ≤ most_words }
-    requires table { AreTalliesIn image.now tallies.now }
-    ensures words { BodyGoesOn image.now most from body.old result.words result.at body.new }
-    ensures steps { BodyHasSteps image.now most from body.old result.words (tallies_of tallies.now)
-        result.steps }
-    ensures most { result.words ≤ most }
-    ensures part { result.steps ≤ result.words }
-    ensures ground { ground_of body.new.local ≡ ground_of body.old.local }
-    ensures counts { body.new.counts ≡ body.old.counts }
-    ensures undoable { StaysUndoable body.old body.new }
-{
-    if tallies.words.entries.len() < tallies.words.kinds.len() {
-        return Counted {
-            at: from,
-            words: 0,
-            steps: 0,
-        };
+/// The loop that counts, by tallies, how many of the words count that it executes. It ends before a
+/// word that isn't tallied: one that looks and reads the flag word; any, where the image has more
+/// words than the table, or once the count has no room.
+#[derive(Drop)]
+pub struct TallyLoop<'a> {
+    pub(crate) tallies: &'a Tallies,
+    pub(crate) steps: u64,
+}
+
+impl<'a> TallyLoop<'a> {
+    /// A loop that has executed no word, with these tallies.
+    pub fn new(tallies: &'a Tallies) -> TallyLoop<'a>
+        ensures tallies { result.tallies.now ≡ tallies.now }
+        ensures none { result.steps ≡ 0 }
+    {
+        TallyLoop { tallies, steps: 0 }
     }
-    let most = most.min(u32::MAX as u64) as u32;
-    let strides = StrideTables {
-        micros: &tallies.words.micros,
-        kinds: &tallies.words.kinds,
-    };
-    step_words(
-        body,
-        image,
-        from,
-        most,
-        strides,
-        &tallies.words.entries,
-        &tallies.sums,
-    )
+
+    /// How many of the words count that it has executed.
+    pub fn steps(&self) -> u64
+        ensures { result ≡ self.now.steps }
+    {
+        self.steps
+    }
 }
 
-/// Executes words from an index on, as long as they are silent and tallied, and at most so many.
-/// The sum of the next word's number and of how many more there may be stays the same as long as
-/// words stand one after another: they are one stretch.
+impl<'a> WordLoop for TallyLoop<'a> {
+    ghost use Rattle.word_visits.specs.TallyLoops.{AreTalliedIn, HasCounted};
+
+    ghost goes_over = { AreTalliedIn };
+
+    ghost learns = { HasCounted };
+
+    fn run(&mut self, body: &mut ExecState<'_>, image: &Image, from: u32, most: u64) -> Progress {
+        let words = &self.tallies.words;
+        if words.entries.len() < words.kinds.len() {
+            return Progress { at: from, words: 0 };
+        }
+        let most = most_counted(most, self.steps);
+        let strides = StrideTables {
+            micros: &words.micros,
+            kinds: &words.kinds,
+        };
+        let counted = step_words(
+            body,
+            image,
+            from,
+            most,
+            strides,
+            &words.entries,
+            &self.tallies.sums,
+        );
+        self.steps += counted.steps;
+        Progress {
+            at: counted.at,
+            words: counted.words,
+        }
+    }
+}
+
+/// Executes words from an index on, as long as they are silent and tallied, and at most `most`. The
+/// sum of the next word's number and of how many more there may be stays the same as long as words
+/// stand one after another: they are one stretch.
 #[inline(never)]
 fn step_words(
     body: &mut ExecState<'_>,
@@ -147,31 +162,4 @@ fn step_words(
         words: (most - going.left) as u64,
         steps: steps + steps_between(sums, first, line - going.left as usize),
     }
-}
-
-/// Executes words as [`run_counting`] does, as long as the undo log has room for what they
-/// overwrite. The undo log takes them back.
-pub fn run_counting_noting(
-    body: &mut ExecState<'_>,
-    image: &Image,
-    from: u32,
-    most: u64,
-    tallies: &Tallies,
-    undo_log: &mut UndoLog,
-) -> Counted
-    requires few { length image.now ≤ most_words }
-    requires table { AreTalliesIn image.now tallies.now }
-    ensures words { BodyGoesOn image.now most from body.old result.words result.at body.new }
-    ensures steps { BodyHasSteps image.now most from body.old result.words (tallies_of tallies.now)
-        result.steps }
-    ensures most { result.words ≤ most }
-    ensures part { result.steps ≤ result.words }
-    ensures back { TakesBack undo_log.new.saved undo_log.new.notes.items body.new.lane
-        body.new.local body.old.lane body.old.local }
-    ensures counts { body.new.counts ≡ body.old.counts }
-{
-    body.start_noting(undo_log);
-    let counted = run_counting(body, image, from, most, tallies);
-    body.stop_noting(undo_log);
-    counted
 }

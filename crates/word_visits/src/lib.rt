@@ -1,6 +1,6 @@
 #![tactic(auto)]
-//! How often each word of an image was executed, by its number, and how many words that count were
-//! executed.
+//! Two loops over the words of an image: one counts how often it executes each word, by its number;
+//! the other, how many words it executes of those that count.
 //!
 //! Words are executed by strides, as [`node_words`] does it, and counted by stretches: words that
 //! stood one after another and were executed so. A table of visits keeps of each word how many
@@ -13,8 +13,6 @@ mod visit;
 mod visiting;
 mod visits;
 
-pub use counting::{Counted, run_counting, run_counting_noting};
-pub use node_words;
+pub use counting::TallyLoop;
 pub use tallies::Tallies;
-pub use visiting::run_visiting;
 pub use visits::Visits;

@@ -15,7 +15,7 @@ use std::alloc::{AllocError, Global};
 /// where it reads something other than the flag word.
 #[derive(Drop)]
 pub struct Tallies {
-    /// The words, none of which is visited.
+    /// The words; none is visited.
     pub(crate) words: Visits,
     /// How many words before each count, and last how many do in all.
     pub(crate) sums: Vec<usize>,
@@ -61,7 +61,7 @@ impl Tallies {
     }
 }
 
-/// How many words before the next one count, where so many before a word do.
+/// How many words before the next one count, where `sum` before a word do.
 fn next_sum(sum: usize, counts: bool) -> usize
     requires { sum + 1 < 2 ^ 64 }
     ensures { result ≡ (if counts then sum + 1 else sum) }

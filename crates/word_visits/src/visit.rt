@@ -47,6 +47,16 @@ pub(crate) struct StrideTables<'a> {
     pub(crate) kinds: &'a [StrideKind],
 }
 
+/// How many of at most `most` words may be executed at once, where so many were counted already: the
+/// count has room for them.
+#[inline(always)]
+pub(crate) fn most_counted(most: u64, counted: u64) -> u32
+    ensures most { result ≤ most }
+    ensures room { result + counted < 2 ^ 64 }
+{
+    most.min(u64::MAX - counted).min(u32::MAX as u64) as u32
+}
+
 /// The kind of a stride, where that is short; else the word goes by itself.
 pub(crate) fn short_stride(kind: StrideKind) -> StrideKind
     ensures slowed { IsSlowedTo kind result }
@@ -59,7 +69,7 @@ pub(crate) fn short_stride(kind: StrideKind) -> StrideKind
     }
 }
 
-/// How many words of the stride from a number on stand behind its jump.
+/// How many words of the stride from a number on stand after its jump.
 #[inline(always)]
 pub(crate) fn behind_at(kinds: &[StrideKind], at: usize) -> usize
     requires inside { at < length kinds.now }
@@ -68,8 +78,8 @@ pub(crate) fn behind_at(kinds: &[StrideKind], at: usize) -> usize
     trail_by(kinds[at]).behind
 }
 
-/// Where the words of a stride stand: among so many from its first on, and so many of them behind
-/// its jump.
+/// Where the words of a stride stand: how many from its first on, and how many of them after its
+/// jump.
 #[derive(Clone, Copy)]
 pub(crate) struct Trail {
     pub(crate) reach: usize,
@@ -83,59 +93,7 @@ pub(crate) fn trail_by(kind: StrideKind) -> Trail
     ensures behind { (at : ℕ) → result.behind ≡ (trail_of kind at).behind }
 {
     match kind {
-        StrideKind::Slow => Trail {
-            reach: 0,
-            behind: 0,
-        },
-        StrideKind::Nothing
-        | StrideKind::Constant
-        | StrideKind::Jump
-        | StrideKind::Link
-        | StrideKind::EnterBy
-        | StrideKind::BranchEq
-        | StrideKind::BranchNe
-        | StrideKind::BranchLt
-        | StrideKind::BranchGe
-        | StrideKind::BranchLtu
-        | StrideKind::BranchGeu
-        | StrideKind::LoadByte
-        | StrideKind::LoadHalf
-        | StrideKind::LoadWord
-        | StrideKind::LoadByteU
-        | StrideKind::LoadHalfU
-        | StrideKind::StoreByte
-        | StrideKind::StoreHalf
-        | StrideKind::StoreWord
-        | StrideKind::AddImm
-        | StrideKind::SltImm
-        | StrideKind::SltuImm
-        | StrideKind::XorImm
-        | StrideKind::OrImm
-        | StrideKind::AndImm
-        | StrideKind::SllImm
-        | StrideKind::SrlImm
-        | StrideKind::SraImm
-        | StrideKind::Add
-        | StrideKind::Sub
-        | StrideKind::Sll
-        | StrideKind::Slt
-        | StrideKind::Sltu
-        | StrideKind::Xor
-        | StrideKind::Srl
-        | StrideKind::Sra
-        | StrideKind::Or
-        | StrideKind::And
-        | StrideKind::Mul
-        | StrideKind::Mulh
-        | StrideKind::Mulhsu
-        | StrideKind::Mulhu
-        | StrideKind::Div
-        | StrideKind::Divu
-        | StrideKind::Rem
-        | StrideKind::Remu => Trail {
-            reach: 1,
-            behind: 0,
-        },
+        StrideKind::Slow => among(0, 0),
         StrideKind::OverEq
         | StrideKind::OverNe
         | StrideKind::OverLt
@@ -152,10 +110,7 @@ pub(crate) fn trail_by(kind: StrideKind) -> Trail
         | StrideKind::SllImmThenAddImm
         | StrideKind::SllImmThenAdd
         | StrideKind::MulThenAddImm
-        | StrideKind::MulThenAdd => Trail {
-            reach: 2,
-            behind: 0,
-        },
+        | StrideKind::MulThenAdd => among(2, 0),
         StrideKind::PollOverEq
         | StrideKind::PollOverNe
         | StrideKind::PollOverLt
@@ -174,83 +129,35 @@ pub(crate) fn trail_by(kind: StrideKind) -> Trail
         | StrideKind::AddThenOverLt
         | StrideKind::AddThenOverGe
         | StrideKind::AddThenOverLtu
-        | StrideKind::AddThenOverGeu => Trail {
-            reach: 3,
-            behind: 0,
-        },
+        | StrideKind::AddThenOverGeu => among(3, 0),
         StrideKind::ReadByte0
         | StrideKind::ReadHalf0
         | StrideKind::ReadWord0
         | StrideKind::ReadByteU0
         | StrideKind::ReadHalfU0
-        | StrideKind::Flag1 => Trail {
-            reach: 9,
-            behind: 1,
-        },
+        | StrideKind::Flag1 => among(9, 1),
         StrideKind::ReadByte1
         | StrideKind::ReadHalf1
         | StrideKind::ReadWord1
         | StrideKind::ReadByteU1
-        | StrideKind::ReadHalfU1 => Trail {
-            reach: 11,
-            behind: 2,
-        },
+        | StrideKind::ReadHalfU1 => among(11, 2),
         StrideKind::ReadByte2
         | StrideKind::ReadHalf2
         | StrideKind::ReadWord2
         | StrideKind::ReadByteU2
-        | StrideKind::ReadHalfU2 => Trail {
-            reach: 13,
-            behind: 3,
-        },
-        StrideKind::WriteByte0 | StrideKind::WriteHalf0 | StrideKind::WriteWord0 => Trail {
-            reach: 8,
-            behind: 1,
-        },
-        StrideKind::WriteByte1 | StrideKind::WriteHalf1 | StrideKind::WriteWord1 => Trail {
-            reach: 10,
-            behind: 2,
-        },
-        StrideKind::WriteByte2 | StrideKind::WriteHalf2 | StrideKind::WriteWord2 => Trail {
-            reach: 12,
-            behind: 3,
-        },
-        StrideKind::Flag0 => Trail {
-            reach: 7,
-            behind: 0,
-        },
-        StrideKind::ReadHead0 => Trail {
-            reach: 16,
-            behind: 0,
-        },
-        StrideKind::ReadHead1 => Trail {
-            reach: 18,
-            behind: 1,
-        },
-        StrideKind::ReadHead2 => Trail {
-            reach: 20,
-            behind: 2,
-        },
-        StrideKind::ReadHead3 => Trail {
-            reach: 22,
-            behind: 3,
-        },
-        StrideKind::WriteHead0 => Trail {
-            reach: 15,
-            behind: 0,
-        },
-        StrideKind::WriteHead1 => Trail {
-            reach: 17,
-            behind: 1,
-        },
-        StrideKind::WriteHead2 => Trail {
-            reach: 19,
-            behind: 2,
-        },
-        StrideKind::WriteHead3 => Trail {
-            reach: 21,
-            behind: 3,
-        },
+        | StrideKind::ReadHalfU2 => among(13, 3),
+        StrideKind::WriteByte0 | StrideKind::WriteHalf0 | StrideKind::WriteWord0 => among(8, 1),
+        StrideKind::WriteByte1 | StrideKind::WriteHalf1 | StrideKind::WriteWord1 => among(10, 2),
+        StrideKind::WriteByte2 | StrideKind::WriteHalf2 | StrideKind::WriteWord2 => among(12, 3),
+        StrideKind::Flag0 => among(7, 0),
+        StrideKind::ReadHead0 => among(16, 0),
+        StrideKind::ReadHead1 => among(18, 1),
+        StrideKind::ReadHead2 => among(20, 2),
+        StrideKind::ReadHead3 => among(22, 3),
+        StrideKind::WriteHead0 => among(15, 0),
+        StrideKind::WriteHead1 => among(17, 1),
+        StrideKind::WriteHead2 => among(19, 2),
+        StrideKind::WriteHead3 => among(21, 3),
         StrideKind::AddImmThenPollOverEq
         | StrideKind::AddImmThenPollOverNe
         | StrideKind::AddImmThenPollOverLt
@@ -262,11 +169,19 @@ pub(crate) fn trail_by(kind: StrideKind) -> Trail
         | StrideKind::AddThenPollOverLt
         | StrideKind::AddThenPollOverGe
         | StrideKind::AddThenPollOverLtu
-        | StrideKind::AddThenPollOverGeu => Trail {
-            reach: 4,
-            behind: 0,
-        },
+        | StrideKind::AddThenPollOverGeu => among(4, 0),
+        // Each other is a word by itself
+        _ => among(1, 0),
     }
+}
+
+/// A trail of so many words, of which so many stand after the jump.
+#[inline(always)]
+fn among(reach: usize, behind: usize) -> Trail
+    ensures reach { result.reach ≡ reach }
+    ensures behind { result.behind ≡ behind }
+{
+    Trail { reach, behind }
 }
 
 /// Whether a stride of a kind goes over no word that looks so much further on, or reads there

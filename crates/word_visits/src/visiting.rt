@@ -17,58 +17,49 @@ ghost use Rattle.node_words.specs.UndoLogs.{StaysUndoable};
 ghost use Rattle.word_visits.specs.Counting.{BodyIsCounted, PassesBy};
 ghost use Rattle.word_visits.specs.Entries.{AreFree, behind_at};
 ghost use Rattle.word_visits.specs.Entries.{begun_in, is_ordered, looks_in, visits_in};
-ghost use Rattle.word_visits.specs.VisitTables.{AreVisitsIn, StayVisits, visits_of};
 ghost use Rattle.word_visits.specs.Visits.{visited_all};
 
-use crate::visit::{StrideTables, Visit, behind_at};
+use crate::visit::{StrideTables, Visit, behind_at, most_counted};
 use crate::visits::Visits;
 use node_words::jump_map::Image;
 use node_words::micro_op::{MicroKind, MicroOp};
-use node_words::{ExecState, Going, MOST_AT_ONCE, Progress};
+use node_words::{ExecState, Going, MOST_AT_ONCE, Progress, WordLoop};
 
-/// Executes words from an index on, as long as they are silent and counted among the visits, and at
-/// most so many. A word isn't counted that looks and reads the flag word; nor is any where the
-/// image has more words than the table, or once all counts together have no room.
-pub fn run_visiting(
-    body: &mut ExecState<'_>,
-    image: &Image,
-    from: u32,
-    most: u64,
-    visits: &mut Visits,
-) -> Progress
-    requires few { length image.now ≤ most_words }
-    requires table { AreVisitsIn image.now visits.old }
-    ensures words { BodyGoesOn image.now most from body.old result.words result.at body.new }
-    ensures visits { BodyIsCounted image.now most from body.old result.words
-        (visits_of visits.old) (visits_of visits.new) }
-    ensures table { StayVisits visits.old visits.new }
-    ensures most { result.words ≤ most }
-    ensures ground { ground_of body.new.local ≡ ground_of body.old.local }
-    ensures counts { body.new.counts ≡ body.old.counts }
-    ensures undoable { StaysUndoable body.old body.new }
-{
-    if visits.entries.len() < visits.kinds.len() {
-        return Progress { at: from, words: 0 };
+/// The loop that counts how often it executes each word. It ends before a word that isn't counted:
+/// one that looks and reads the flag word; any, where the image has more words than the table, or
+/// once all counts together have no room.
+impl WordLoop for Visits {
+    ghost use Rattle.word_visits.specs.VisitTables.{AreVisitsIn, visits_of};
+    ghost use Rattle.word_visits.specs.Visits.{AreCounted};
+
+    ghost goes_over = { AreVisitsIn };
+
+    ghost learns = { λ work words n v w. AreCounted work words n (visits_of v) (visits_of w) };
+
+    fn run(&mut self, body: &mut ExecState<'_>, image: &Image, from: u32, most: u64) -> Progress {
+        if self.entries.len() < self.kinds.len() {
+            return Progress { at: from, words: 0 };
+        }
+        let most = most_counted(most, self.counted);
+        let strides = StrideTables {
+            micros: &self.micros,
+            kinds: &self.kinds,
+        };
+        let done = pass_words(
+            body,
+            image,
+            from,
+            most,
+            strides,
+            &mut self.entries,
+            &mut self.behind,
+        );
+        self.counted += done.words;
+        done
     }
-    let most = most.min(u64::MAX - visits.counted).min(u32::MAX as u64) as u32;
-    let strides = StrideTables {
-        micros: &visits.micros,
-        kinds: &visits.kinds,
-    };
-    let done = pass_words(
-        body,
-        image,
-        from,
-        most,
-        strides,
-        &mut visits.entries,
-        &mut visits.behind,
-    );
-    visits.counted += done.words;
-    done
 }
 
-/// Executes words from an index on, as long as they are silent and count, and at most so many. The
+/// Executes words from an index on, as long as they are silent and count, and at most `most`. The
 /// sum of the next word's number and of how many more there may be stays the same as long as words
 /// stand one after another: they are one stretch.
 #[inline(never)]

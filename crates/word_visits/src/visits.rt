@@ -20,7 +20,7 @@ pub struct Visits {
     /// What is executed at once from each word of the image on: never a stride over a word that
     /// looks.
     pub(crate) kinds: Vec<StrideKind>,
-    /// How many stretches end behind the last word.
+    /// How many stretches end after the last word.
     pub(crate) behind: usize,
     /// How often all words together were executed.
     pub(crate) counted: u64,

@@ -1,6 +1,6 @@
 use Rattle.std.proofs.Common.{◌≡◌, ◌≤◌}
-use Rattle.word_visits.specs.node_words.home_directory.Effects.{members}
-use Rattle.word_visits.specs.node_words.home_directory.Home.{count_of}
+use Rattle.node_words.specs.home_directory.Effects.{members}
+use Rattle.node_words.specs.home_directory.Home.{count_of}
 use Rattle.node_machine.proofs.node.count.Given as goal
 
 abbrev pub invariant-loop-node : goal.invariant-loop-node

@@ -1,5 +1,5 @@
 use Rattle.std.proofs.Common.{◌≡◌, ◌+◌, ◌++◌, ◌≤◌, length}
-use Rattle.word_visits.specs.node_words.node_model.Turns.{byes_to}
+use Rattle.node_words.specs.node_model.Turns.{byes_to}
 use Rattle.node_machine.proofs.node_state.add_byes.Given as goal
 
 abbrev pub invariant-loop-to : goal.invariant-loop-to

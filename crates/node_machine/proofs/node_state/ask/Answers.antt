@@ -1,7 +1,7 @@
 -- By what the protocol does.
 use Rattle.std.proofs.Common.{◌≡◌, [], sym, subst}
-use Rattle.word_visits.specs.node_words.node_model.Turns.{want_all, each_block_once}
-use Rattle.word_visits.specs.node_words.Kept.{wants_by}
+use Rattle.node_words.specs.node_model.Turns.{want_all, each_block_once}
+use Rattle.node_words.specs.Kept.{wants_by}
 use Rattle.node_machine.specs.NodeState.{layout_of, with_parts}
 use Rattle.node_machine.specs.ProtocolState.{turn_by}
 use Rattle.node_machine.specs.Wanted.{wants_along, wanted_list}

@@ -1,5 +1,5 @@
 use Rattle.std.proofs.Common.{◌∙◌}
-use Rattle.word_visits.specs.node_words.home_directory.Effects.{members}
+use Rattle.node_words.specs.home_directory.Effects.{members}
 use Rattle.node_machine.specs.NodeState.{layout_of, with_all}
 use Rattle.node_machine.proofs.TakeLemmas.{handled_other}
 use Rattle.node_machine.proofs.node_state.handle.Goals as goal

@@ -1,8 +1,8 @@
 use Rattle.std.proofs.Common.{◌∙◌, None, ap, sym, subst}
 use Rattle.std.proofs.Math.Path.{fun_ext}
-use Rattle.word_visits.specs.node_words.flag_memory.Copy.{CopyLaws}
-use Rattle.word_visits.specs.node_words.node_model.Node.{first_local}
-use Rattle.word_visits.specs.node_words.node_memory.Shelf.{HasSharedLines, local_of}
+use Rattle.node_words.specs.flag_memory.Copy.{CopyLaws}
+use Rattle.node_words.specs.node_model.Node.{first_local}
+use Rattle.node_words.specs.node_memory.Shelf.{HasSharedLines, local_of}
 use Rattle.node_machine.specs.Opening.{AreFixedClasses}
 use Rattle.node_machine.proofs.BlockLemmas.{LineLaws}
 use Rattle.node_machine.proofs.OpeningLemmas.{shared_lines, shared_low, others_fixed, first_states, first_copy}

@@ -1,6 +1,6 @@
 use Rattle.std.proofs.Common.{◌∙◌, sym, subst}
 use Rattle.block_layout.specs.Layout.{AreRanges}
-use Rattle.word_visits.specs.node_words.exec_map.Contents.{is_read_only, AreRangesOf}
+use Rattle.node_words.specs.exec_map.Contents.{is_read_only, AreRangesOf}
 use Rattle.state_table.specs.LineClasses.{AreClasses}
 use Rattle.node_machine.specs.Opening.{AreFixedClasses}
 use Rattle.node_machine.proofs.OpeningLemmas.{are_classes, are_fixed}

@@ -2,7 +2,7 @@ use Rattle.std.proofs.Common.{◌∙◌}
 use Rattle.block_layout.specs.Layout.{blocks}
 use Rattle.state_table.specs.declared.State.TheVariants.{Invalid}
 use Rattle.state_table.specs.States.{state_of}
-use Rattle.word_visits.specs.node_words.flag_memory.Copy.{bytes_of}
+use Rattle.node_words.specs.flag_memory.Copy.{bytes_of}
 use Rattle.node_machine.specs.Opening.{opening_state, opening_bytes}
 use Rattle.node_machine.proofs.OpeningLemmas.{opened, unopened}
 use Rattle.node_machine.proofs.opening.open_blocks.Goals as goal

@@ -1,5 +1,5 @@
 use Rattle.std.proofs.Common.{sym, Some, None}
-use Rattle.word_visits.specs.node_words.node_memory.Shelf.{want_of}
+use Rattle.node_words.specs.node_memory.Shelf.{want_of}
 use Rattle.node_machine.proofs.BlockLemmas.{LineLaws}
 use Rattle.node_machine.proofs.ProtocolLemmas.{same_by}
 use Rattle.node_machine.proofs.protocol_state.is_same_block.Goals as goal

@@ -3,9 +3,9 @@ use Rattle.std.proofs.Common.{◌≡◌, ◌/◌, ◌∙◌, ap, sym}
 use Rattle.block_layout.specs.Layout.{first_line}
 use Rattle.state_table.specs.StateByte.{state_with}
 use Rattle.state_table.specs.States.{state_of}
-use Rattle.word_visits.specs.node_words.node_model.Node.{NodeMemory}
-use Rattle.word_visits.specs.node_words.node_model.Turns.{block_at}
-use Rattle.word_visits.specs.node_words.node_memory.Shelf.{want_of}
+use Rattle.node_words.specs.node_model.Node.{NodeMemory}
+use Rattle.node_words.specs.node_model.Turns.{block_at}
+use Rattle.node_words.specs.node_memory.Shelf.{want_of}
 use Rattle.node_machine.specs.Wanted.{block_with}
 use Rattle.node_machine.proofs.BlockLemmas.{LineLaws, block_state}
 use Rattle.node_machine.proofs.WantedLemmas.{wanted_is, wanted_none}

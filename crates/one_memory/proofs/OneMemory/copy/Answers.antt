@@ -16,14 +16,14 @@ pub loop-p-preserved : goal.loop-p-preserved
 loop-p-preserved c =
     let old = c.self.inside.processors.items in
     let p = c.loop-p.p in
-    let within : p < length old = omega (arith, c.self.invariant.0, c.number-p-end.ensures.value, c.loop-p-test.true) in
+    let within : p < length old = omega (arith, c.self.invariant.0, c.as_u8-p-end.ensures.value, c.loop-p-test.true) in
     let get = slice_get_read old (length old) p _ refl within c.index.ensures in
     subst (λ (ks : List ProcessorParts). AreCopies old ks (p + 1)) (sym c.in_ok-push.ensures.items)
     (one_copy old c.loop-p.processors.items p _ _ c.loop-p.invariant get c.in_ok-copy.ensures)
 
 pub invariant_of-result : goal.invariant_of-result
 invariant_of-result c =
-    let all : c.loop-p.p ≡ c.self.inside.nodes = omega (arith, c.number-p-end.ensures.value, c.loop-p-test.false, c.loop-p.auto.p-end) in
+    let all : c.loop-p.p ≡ c.self.inside.nodes = omega (arith, c.as_u8-p-end.ensures.value, c.loop-p-test.false, c.loop-p.auto.p-end) in
     let code = subst (λ (e : Elf). IsCodeOf e c.in_ok-code.code) (sym c.in_ok-memory.ensures.program)
     (c.in_ok-code.ensures c.self.inside.memory.program c.self.invariant.2) in
     (c.loop-p.invariant.len ∙ all, c.self.invariant.1, code)
@@ -37,7 +37,7 @@ pub returns-clause-state : goal.returns-clause-state
 returns-clause-state c =
     let i = c.self.inside in
     let is = c.in_ok-memory.ensures in
-    let all : c.loop-p.p ≡ length i.processors.items = omega (arith, c.self.invariant.0, c.number-p-end.ensures.value, c.loop-p-test.false, c.loop-p.auto.p-end) in
+    let all : c.loop-p.p ≡ length i.processors.items = omega (arith, c.self.invariant.0, c.as_u8-p-end.ensures.value, c.loop-p-test.false, c.loop-p.auto.p-end) in
     let h : Parts = record { memory = i.memory; count = i.nodes; processors = i.processors.items } in
     let new : Parts = record { memory = c.in_ok-memory.memory; count = i.nodes; processors = c.loop-p.processors.items } in
     rw (← c.self.view_is)

@@ -19,16 +19,16 @@ loop-p-preserved c =
 
 pub invariant_of-result : goal.invariant_of-result
 invariant_of-result c =
-    let range = c.number-p-end.ensures.range in
-    let all : c.loop-p.p ≡ c.args.nodes = omega (arith, c.number-p-end.ensures.value, c.loop-p-test.false, c.loop-p.auto.p-end) in
+    let range = c.as_u8-p-end.ensures.range in
+    let all : c.loop-p.p ≡ c.args.nodes = omega (arith, c.as_u8-p-end.ensures.value, c.loop-p-test.false, c.loop-p.auto.p-end) in
     let code = subst (λ (e : Elf). IsCodeOf e c.in_ok-code.code) (sym c.in_ok-memory.ensures.program) c.in_ok-code.ensures in
-    (c.loop-p.invariant.len ∙ all, omega (arith, range.1, c.number-p-end.ensures.value), code)
+    (c.loop-p.invariant.len ∙ all, omega (arith, range.1, c.as_u8-p-end.ensures.value), code)
 
 pub returns-clause-opening : goal.returns-clause-opening
 returns-clause-opening c =
     let m = c.in_ok-memory.memory in
     let is = c.in_ok-memory.ensures in
-    let all : c.loop-p.p ≡ c.args.nodes = omega (arith, c.number-p-end.ensures.value, c.loop-p-test.false, c.loop-p.auto.p-end) in
+    let all : c.loop-p.p ≡ c.args.nodes = omega (arith, c.as_u8-p-end.ensures.value, c.loop-p-test.false, c.loop-p.auto.p-end) in
     let shared = rw (← is.program) at is.shared in
     let first : AreFirst (original_on m c.args.nodes) c.loop-p.processors.items c.args.nodes =
     subst (λ (e : Elf). AreFirst (original_with c.args.nodes m.layout e) c.loop-p.processors.items c.args.nodes) (sym is.program)

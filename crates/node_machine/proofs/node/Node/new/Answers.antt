@@ -3,17 +3,17 @@ use Rattle.std.specs.Prelude.{unwrap_or, slice_index}
 use Rattle.std.proofs.Math.Path.{fun_ext}
 use Rattle.elf32_read.specs.Elf.{Elf}
 use Rattle.block_layout.specs.Layout.{Shape}
-use Rattle.word_visits.specs.node_words.rv32_step.Registers.{registers_of, first_values}
-use Rattle.word_visits.specs.node_words.exec_map.Contents.{program_of}
-use Rattle.word_visits.specs.node_words.jump_map.Maps.{new_of}
-use Rattle.word_visits.specs.node_words.home_directory.Effects.{entry_at, entries_of, requests_for, members}
-use Rattle.word_visits.specs.node_words.miss_handlers.Waits.{wait_of}
-use Rattle.word_visits.specs.node_words.declared.exec_state.ExecState.{ExecState}
-use Rattle.word_visits.specs.node_words.node_model.Node.{Node, Work, Running, opening_node}
-use Rattle.word_visits.specs.node_words.node_memory.Shelf.{local_of}
-use Rattle.word_visits.specs.node_words.Kept.{lane_of}
+use Rattle.node_words.specs.rv32_step.Registers.{registers_of, first_values}
+use Rattle.node_words.specs.exec_map.Contents.{program_of}
+use Rattle.node_words.specs.jump_map.Maps.{new_of}
+use Rattle.node_words.specs.home_directory.Effects.{entry_at, entries_of, requests_for, members}
+use Rattle.node_words.specs.miss_handlers.Waits.{wait_of}
+use Rattle.node_words.specs.declared.exec_state.ExecState.{ExecState}
+use Rattle.node_words.specs.node_model.Node.{Node, Work, Running, opening_node}
+use Rattle.node_words.specs.node_memory.Shelf.{local_of}
+use Rattle.node_words.specs.Kept.{lane_of}
 use Rattle.node_machine.specs.NodeState.{layout_of, entries_in}
-use Rattle.word_visits.specs.node_words.Address.{word_address}
+use Rattle.node_words.specs.Address.{word_address}
 use Rattle.node_machine.proofs.OpeningLemmas.{opening_entries, none_of}
 use Rattle.node_machine.proofs.node.Node.new.Goals as goal
 

@@ -1,8 +1,8 @@
 -- A block's state is that of its first line.
 use Rattle.std.proofs.Common.{ap, sym, subst, ◌∙◌}
 use Rattle.state_table.specs.States.{state_of}
-use Rattle.word_visits.specs.node_words.declared.exec_state.ExecState.{ExecState}
-use Rattle.word_visits.specs.node_words.node_memory.Blocks.{ShelfLaws}
+use Rattle.node_words.specs.declared.exec_state.ExecState.{ExecState}
+use Rattle.node_words.specs.node_memory.Blocks.{ShelfLaws}
 use Rattle.node_machine.specs.declared.node_state.NodeState.{NodeState as Stored}
 use Rattle.node_machine.specs.NodeState.{layout_of}
 use Rattle.node_machine.proofs.BlockLemmas.{LineLaws, block_state}

@@ -1,13 +1,13 @@
 use Rattle.std.proofs.Common.{◌≡◌, ◌+◌, ◌*◌, ◌∙◌, ap, sym, subst, refl, length, arith}
 use Rattle.std.specs.Box.{with_value}
 use Rattle.block_layout.specs.Layout.{Shape}
-use Rattle.word_visits.specs.node_words.exec_map.Contents.{program_of}
-use Rattle.word_visits.specs.node_words.declared.exec_state.ExecState.{ExecState}
+use Rattle.node_words.specs.exec_map.Contents.{program_of}
+use Rattle.node_words.specs.declared.exec_state.ExecState.{ExecState}
 use Rattle.node_machine.specs.declared.node_state.NodeState.{NodeState}
-use Rattle.word_visits.specs.node_words.Address.{word_address}
-use Rattle.word_visits.specs.node_words.node_model.Node.{next_outcome}
-use Rattle.word_visits.specs.node_words.node_memory.Shelf.{Ground, ground_of, local_of}
-use Rattle.word_visits.specs.node_words.Kept.{Follows, lane_of}
+use Rattle.node_words.specs.Address.{word_address}
+use Rattle.node_words.specs.node_model.Node.{next_outcome}
+use Rattle.node_words.specs.node_memory.Shelf.{Ground, ground_of, local_of}
+use Rattle.node_words.specs.Kept.{Follows, lane_of}
 use Rattle.node_machine.specs.NodeState.{layout_of, phase_of, work_of, IsProtocolState, IsNode, AreCountsBelow}
 use Rattle.node_machine.proofs.NodeStateLemmas.{passed_turn, may_waits, counts_up}
 use Rattle.node_machine.proofs.node_state.NodeState.exec_silent.Goals as goal

@@ -1,18 +1,18 @@
 use Rattle.std.proofs.Common.{◌≡◌, ◌+◌, ◌*◌, ◌≤◌, ◌∙◌, ap, sym, subst, length, ℕ, [], Option, ◌^◌, arith}
 use Rattle.block_layout.specs.Layout.{Shape}
-use Rattle.word_visits.specs.node_words.exec_map.Contents.{program_of}
-use Rattle.word_visits.specs.node_words.home_directory.Effects.{entry_at, entries_of, members}
-use Rattle.word_visits.specs.node_words.miss_handlers.Waits.{wait_of}
-use Rattle.word_visits.specs.node_words.declared.exec_state.ExecState.{ExecState}
-use Rattle.word_visits.specs.node_words.Address.{word_address}
-use Rattle.word_visits.specs.node_words.node_model.Node.{Node, next_outcome, word_outcome}
-use Rattle.word_visits.specs.node_words.node_model.Turns.{want_all, each_block_once, is_ended, words_before}
-use Rattle.word_visits.specs.node_words.node_memory.Shelf.{Ground, ground_of, local_of}
-use Rattle.word_visits.specs.node_words.Kept.{Serves, lane_of, wants_by}
+use Rattle.node_words.specs.exec_map.Contents.{program_of}
+use Rattle.node_words.specs.home_directory.Effects.{entry_at, entries_of, members}
+use Rattle.node_words.specs.miss_handlers.Waits.{wait_of}
+use Rattle.node_words.specs.declared.exec_state.ExecState.{ExecState}
+use Rattle.node_words.specs.Address.{word_address}
+use Rattle.node_words.specs.node_model.Node.{Node, next_outcome, word_outcome}
+use Rattle.node_words.specs.node_model.Turns.{want_all, each_block_once, is_ended, words_before}
+use Rattle.node_words.specs.node_memory.Shelf.{Ground, ground_of, local_of}
+use Rattle.node_words.specs.Kept.{Serves, lane_of, wants_by}
 use Rattle.node_machine.specs.NodeState.{node_of, work_of, layout_of, phase_of, with_parts, entries_in, IsProtocolState, AreCountsBelow, WaitsInPhase}
 use Rattle.node_machine.specs.ProtocolState.{turn_by, AreUnmet}
 use Rattle.node_machine.specs.Wanted.{wants_along, wanted_in}
-use Rattle.word_visits.proofs.words.WordLemmas.{ending}
+use Rattle.node_words.proofs.WordLemmas.{ending}
 use Rattle.node_machine.specs.declared.states.LaneState.{LaneState}
 use Rattle.node_machine.specs.declared.states.SharedState.{SharedState}
 use Rattle.node_machine.proofs.NodeStateLemmas.{served_node, served_turn, served_wants, counts_up, served_below, may_waits, begun_waits, ended_silent}

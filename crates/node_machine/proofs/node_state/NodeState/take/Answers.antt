@@ -1,18 +1,18 @@
 use Rattle.std.proofs.Common.{◌≡◌, ◌+◌, ◌-◌, ◌*◌, ◌∙◌, ◌++◌, ◌^◌, ap, sym, subst, eqb, length, [], ◌∷◌, None, arith}
 use Rattle.block_layout.specs.Layout.{Shape, blocks}
-use Rattle.word_visits.specs.node_words.exec_map.Contents.{program_of}
-use Rattle.word_visits.specs.node_words.home_directory.Effects.{entry_at, entries_of, members}
-use Rattle.word_visits.specs.node_words.home_directory.Home.{count_of}
+use Rattle.node_words.specs.exec_map.Contents.{program_of}
+use Rattle.node_words.specs.home_directory.Effects.{entry_at, entries_of, members}
+use Rattle.node_words.specs.home_directory.Home.{count_of}
 use Rattle.std.specs.Prelude.{is_some}
-use Rattle.word_visits.specs.node_words.miss_handlers.Waits.{wait_of}
-use Rattle.word_visits.specs.node_words.declared.exec_state.ExecState.{ExecState}
-use Rattle.word_visits.specs.node_words.node_model.declared.Entry.{Entry}
-use Rattle.word_visits.specs.node_words.Address.{word_address}
-use Rattle.word_visits.specs.node_words.node_model.Node.{Node}
-use Rattle.word_visits.specs.node_words.node_model.Turns.{handled, journaled, later, words_before, with_byes, is_ended}
-use Rattle.word_visits.specs.node_words.declared.lane.ProcessorState as kept
-use Rattle.word_visits.specs.node_words.node_memory.Shelf.{Shelf, Ground, ground_of, local_of}
-use Rattle.word_visits.specs.node_words.Kept.{lane_of}
+use Rattle.node_words.specs.miss_handlers.Waits.{wait_of}
+use Rattle.node_words.specs.declared.exec_state.ExecState.{ExecState}
+use Rattle.node_words.specs.node_model.declared.Entry.{Entry}
+use Rattle.node_words.specs.Address.{word_address}
+use Rattle.node_words.specs.node_model.Node.{Node}
+use Rattle.node_words.specs.node_model.Turns.{handled, journaled, later, words_before, with_byes, is_ended}
+use Rattle.node_words.specs.declared.lane.ProcessorState as kept
+use Rattle.node_words.specs.node_memory.Shelf.{Shelf, Ground, ground_of, local_of}
+use Rattle.node_words.specs.Kept.{lane_of}
 use Rattle.node_machine.specs.NodeState.{node_of, layout_of, phase_of, with_all, entries_in, phase_resumed, lane_after_wait, counts_after_wait, IsProtocolState, AreCountsBelow, WaitsInPhase}
 use Rattle.node_machine.specs.ProtocolState.{turn_by}
 use Rattle.node_machine.specs.declared.states.LaneState.{LaneState}

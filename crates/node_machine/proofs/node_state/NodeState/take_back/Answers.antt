@@ -1,17 +1,17 @@
 use Rattle.std.proofs.Common.{◌*◌, ◌≤◌, List, ◌∙◌, ap, sym, subst, length, arith}
 use Rattle.block_layout.specs.Layout.{Shape}
-use Rattle.word_visits.specs.node_words.exec_map.Contents.{program_of}
+use Rattle.node_words.specs.exec_map.Contents.{program_of}
 use Rattle.run_limits.specs.Ranges.{IsBudget}
-use Rattle.word_visits.specs.node_words.jump_map.Image.{Cell, most_words}
-use Rattle.word_visits.specs.node_words.home_directory.Effects.{entry_at, entries_of, members}
-use Rattle.word_visits.specs.node_words.miss_handlers.Waits.{wait_of}
-use Rattle.word_visits.specs.node_words.declared.exec_state.ExecState.{ExecState}
-use Rattle.word_visits.specs.node_words.Address.{word_address}
-use Rattle.word_visits.specs.node_words.node_memory.Shelf.{Ground, ground_of}
-use Rattle.word_visits.specs.node_words.Kept.{lane_of}
-use Rattle.word_visits.specs.node_words.UndoLogs.{TakesBack}
-use Rattle.word_visits.specs.node_words.node_model.Node.{can_execute}
-use Rattle.word_visits.specs.node_words.node_model.Turns.{words_before}
+use Rattle.node_words.specs.jump_map.Image.{Cell, most_words}
+use Rattle.node_words.specs.home_directory.Effects.{entry_at, entries_of, members}
+use Rattle.node_words.specs.miss_handlers.Waits.{wait_of}
+use Rattle.node_words.specs.declared.exec_state.ExecState.{ExecState}
+use Rattle.node_words.specs.Address.{word_address}
+use Rattle.node_words.specs.node_memory.Shelf.{Ground, ground_of}
+use Rattle.node_words.specs.Kept.{lane_of}
+use Rattle.node_words.specs.UndoLogs.{TakesBack}
+use Rattle.node_words.specs.node_model.Node.{can_execute}
+use Rattle.node_words.specs.node_model.Turns.{words_before}
 use Rattle.node_machine.specs.declared.protocol_state.ProtocolState.{ProtocolState}
 use Rattle.node_machine.specs.declared.phase.Phase as kept
 use Rattle.node_machine.specs.NodeState.{layout_of, phase_of, entries_in, IsProtocolState, AreCountsBelow, WaitsInPhase}

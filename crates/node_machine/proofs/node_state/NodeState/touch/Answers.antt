@@ -1,6 +1,6 @@
 -- By the kind of its micro-op.
 use Rattle.std.proofs.Common.{refl}
-use Rattle.word_visits.specs.node_words.micro_op.declared.MicroKind.TheVariants.{LoadByte, LoadHalf, LoadWord, LoadByteU, LoadHalfU, StoreByte, StoreHalf, StoreWord}
+use Rattle.node_words.specs.micro_op.declared.MicroKind.TheVariants.{LoadByte, LoadHalf, LoadWord, LoadByteU, LoadHalfU, StoreByte, StoreHalf, StoreWord}
 use Rattle.rv32_decode.specs.declared.LoadKind.TheVariants as load_kind
 use Rattle.rv32_decode.specs.declared.Width.TheVariants as width
 use Rattle.node_machine.specs.declared.touch.Touch.TheVariants.{Nothing}

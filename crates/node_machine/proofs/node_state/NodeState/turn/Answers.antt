@@ -1,7 +1,7 @@
 use Rattle.std.proofs.Common.{◌∙◌, ◌++◌, ap, cond, List}
-use Rattle.word_visits.specs.node_words.dsm_messages.declared.messages.Post.{Post}
-use Rattle.word_visits.specs.node_words.declared.exec_state.ExecState.{ExecState}
-use Rattle.word_visits.specs.node_words.node_model.Turns.{byes_to, is_ended}
+use Rattle.node_words.specs.dsm_messages.declared.messages.Post.{Post}
+use Rattle.node_words.specs.declared.exec_state.ExecState.{ExecState}
+use Rattle.node_words.specs.node_model.Turns.{byes_to, is_ended}
 use Rattle.node_machine.specs.NodeState.{node_of, layout_of, phase_of}
 use Rattle.node_machine.specs.ProtocolState.{turn_by}
 use Rattle.node_machine.proofs.NodeStateLemmas.{byes_by}

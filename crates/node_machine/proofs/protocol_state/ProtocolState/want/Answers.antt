@@ -1,7 +1,7 @@
 use Rattle.std.proofs.Common.{◌≡◌, ◌+◌, ◌^◌, ◌∙◌, [], ◌∷◌, ap, sym, refl, arith}
 use Rattle.block_layout.specs.Layout.{Shape}
-use Rattle.word_visits.specs.node_words.node_model.Turns.{Turn, each_block_once}
-use Rattle.word_visits.specs.node_words.node_memory.Shelf.{Ground, want_of, others_of, all_wants}
+use Rattle.node_words.specs.node_model.Turns.{Turn, each_block_once}
+use Rattle.node_words.specs.node_memory.Shelf.{Ground, want_of, others_of, all_wants}
 use Rattle.node_machine.specs.NodeState.{layout_of, with_parts}
 use Rattle.node_machine.specs.ProtocolState.{turn_by}
 use Rattle.node_machine.specs.Wanted.{wanted, block_with, wants_along}
@@ -49,5 +49,4 @@ returns-clause-wants c n p =
     let head = sym (c.wanted_of-first.ensures m refl) in
     let next = ap (λ (t : Turn). wanted l t.node v (block_with l v.at)) (c.want_line-post.ensures.turn n [] p)
     ∙ ap (λ (x : Shape). wanted x m' v (block_with x v.at)) (sym same) ∙ sym (c.wanted_of-second.ensures m' refl) in
-    ap (wants_along l (turn_by m [] p)) once
-    ∙ (λ t. head t ∷ (next t ∷ []))
+    ap (wants_along l (turn_by m [] p)) once ∙ (λ t. head t ∷ (next t ∷ []))

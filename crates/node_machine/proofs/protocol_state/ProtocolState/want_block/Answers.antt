@@ -1,16 +1,16 @@
 use Rattle.std.proofs.Common.{◌≡◌, ◌∙◌, ℕ, ap, sym, refl, [], ◌∷◌, Option, Some, None, arith}
-use Rattle.word_visits.specs.node_words.dsm_messages.declared.messages.Post.{Post}
-use Rattle.word_visits.specs.node_words.home_directory.declared.wait.Wait.{Wait}
-use Rattle.word_visits.specs.node_words.home_directory.Table.{Miss}
+use Rattle.node_words.specs.dsm_messages.declared.messages.Post.{Post}
+use Rattle.node_words.specs.home_directory.declared.wait.Wait.{Wait}
+use Rattle.node_words.specs.home_directory.Table.{Miss}
 use Rattle.state_table.specs.States.{state_of}
-use Rattle.word_visits.specs.node_words.miss_handlers.Effects.{miss_of, post_of}
-use Rattle.word_visits.specs.node_words.miss_handlers.Waits.{wait_of}
-use Rattle.word_visits.specs.node_words.node_model.declared.NodeCounts.{NodeCounts}
-use Rattle.word_visits.specs.node_words.dsm_messages.declared.messages.Need.{Need}
+use Rattle.node_words.specs.miss_handlers.Effects.{miss_of, post_of}
+use Rattle.node_words.specs.miss_handlers.Waits.{wait_of}
+use Rattle.node_words.specs.node_model.declared.NodeCounts.{NodeCounts}
+use Rattle.node_words.specs.dsm_messages.declared.messages.Need.{Need}
 use Rattle.state_table.specs.declared.State.{State}
-use Rattle.word_visits.specs.node_words.declared.exec_state.ExecState.{ExecState}
+use Rattle.node_words.specs.declared.exec_state.ExecState.{ExecState}
 use Rattle.node_machine.specs.declared.protocol_state.ProtocolState.{ProtocolState}
-use Rattle.word_visits.specs.node_words.node_model.Turns.{count_want}
+use Rattle.node_words.specs.node_model.Turns.{count_want}
 use Rattle.node_machine.proofs.BlockLemmas.{LineLaws}
 use Rattle.node_machine.proofs.ProtocolLemmas.{HasWanted, want_turn, posts_of, counts_if, others_wait, waits_grow}
 use Rattle.node_machine.proofs.protocol_state.ProtocolState.want_block.Goals as goal

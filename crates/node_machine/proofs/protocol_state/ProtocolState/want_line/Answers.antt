@@ -1,7 +1,7 @@
 use Rattle.std.proofs.Common.{◌/◌, ◌∙◌, ℕ, ap, sym, Some, List}
 use Rattle.std.proofs.lemmas.List.{append-nil}
-use Rattle.word_visits.specs.node_words.dsm_messages.declared.messages.Post.{Post}
-use Rattle.word_visits.specs.node_words.node_model.Turns.{want_in}
+use Rattle.node_words.specs.dsm_messages.declared.messages.Post.{Post}
+use Rattle.node_words.specs.node_model.Turns.{want_in}
 use Rattle.node_machine.specs.NodeState.{layout_of, with_parts}
 use Rattle.node_machine.specs.ProtocolState.{turn_by}
 use Rattle.node_machine.proofs.BlockLemmas.{LineLaws}

@@ -1,5 +1,5 @@
 -- A processor that isn't stopped has words left.
-use Rattle.word_visits.specs.node_words.node_model.Node.{Resumed}
+use Rattle.node_words.specs.node_model.Node.{Resumed}
 use Rattle.node_machine.specs.NodeState.{phase_of}
 use Rattle.node_machine.proofs.NodeStateLemmas.{stop_goes}
 use Rattle.node_machine.proofs.states.LaneState.resume_at.Goals as goal

@@ -12,11 +12,9 @@ use Rattle.node_words.proofs.exec_state.ExecState.execute.Goals as goal
 pub returns-in-Native-clause-does : goal.returns-in-Native-clause-does
 returns-in-Native-clause-does c =
     let b = c.args.self.now in
-    rw c.in-Native.is
-    (subst
+    rw c.in-Native.is (subst
     (λ (x : ℕ). Does (native (program_of b.local.program) c.args.place x (lane_of b.lane x) (local_of b.local) (demand_of c.in-Native.i (registers_of b.lane.registers) x)) (ground_of b.local) x c.native.new.self.lane c.native.new.self.local c.native.result)
-    c.address_of.ensures
-    c.native.ensures.does)
+    c.address_of.ensures c.native.ensures.does)
 
 pub returns-in-Call-clause-does : goal.returns-in-Call-clause-does
 returns-in-Call-clause-does c = rw c.in-Call.is (c.call.ensures.does (word_address c.args.at))
@@ -25,31 +23,25 @@ pub returns-in-Xjalr-clause-does : goal.returns-in-Xjalr-clause-does
 returns-in-Xjalr-clause-does c =
     let b = c.args.self.now in
     let at = word_address c.args.at in
-    rw c.in-Xjalr.is
-    (subst
+    rw c.in-Xjalr.is (subst
     (λ (x : ℕ). Does (indirect c.args.place (lane_of b.lane at) (local_of b.local) c.in-Xjalr.rd (x / 2 * 2)) (ground_of b.local) at c.indirect.new.self.lane c.indirect.new.self.local c.indirect.result)
-    c.sum-in-Xjalr.ensures
-    (c.indirect.ensures.does at))
+    c.sum-in-Xjalr.ensures (c.indirect.ensures.does at))
 
 pub returns-in-MissR-clause-does : goal.returns-in-MissR-clause-does
 returns-in-MissR-clause-does c =
     let b = c.args.self.now in
     let at = word_address c.args.at in
-    rw c.in-MissR.is
-    (subst
+    rw c.in-MissR.is (subst
     (λ (x : ℕ). Does (miss_r c.args.place (lane_of b.lane at) (local_of b.local) c.in-MissR.width x) (ground_of b.local) at b.lane b.local c.miss_r.result)
-    c.sum.ensures
-    (c.miss_r.ensures at))
+    c.sum.ensures (c.miss_r.ensures at))
 
 pub returns-in-MissW-clause-does : goal.returns-in-MissW-clause-does
 returns-in-MissW-clause-does c =
     let b = c.args.self.now in
     let at = word_address c.args.at in
-    rw c.in-MissW.is
-    (subst
+    rw c.in-MissW.is (subst
     (λ (x : ℕ). Does (miss_w c.args.place (lane_of b.lane at) (local_of b.local) c.in-MissW.width x) (ground_of b.local) at b.lane b.local c.miss_w.result)
-    c.sum-in-MissW.ensures
-    (c.miss_w.ensures at))
+    c.sum-in-MissW.ensures (c.miss_w.ensures at))
 
 pub returns-in-Batch-clause-does : goal.returns-in-Batch-clause-does
 returns-in-Batch-clause-does c = rw c.in-Batch.is c.batch.ensures.does
@@ -73,8 +65,6 @@ returns-in-Prepare-clause-does c =
     let value = c.get.ensures in
     let fits = c.get.type_inv in
     let same : c.get.result ≡ (reg (registers_of b.lane.registers) c.in-Prepare.rs1 + 0) % 2 ^ 32 = omega (arith, value, fits) in
-    rw c.in-Prepare.is
-    (subst
+    rw c.in-Prepare.is (subst
     (λ (x : ℕ). Does (prepare c.args.place (lane_of b.lane at) (local_of b.local) x) (ground_of b.local) at b.lane b.local c.prepare.result)
-    same
-    (c.prepare.ensures at))
+    same (c.prepare.ensures at))

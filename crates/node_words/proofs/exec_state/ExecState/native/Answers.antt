@@ -11,5 +11,4 @@ returns-clause-does c =
     let b = c.args.self.now in
     subst
     (λ (d : Demand). Does (native (program_of b.local.program) c.args.place c.args.at (lane_of b.lane c.args.at) (local_of b.local) d) (ground_of b.local) c.args.at c.meet.new.self.lane c.meet.new.self.local c.meet.result)
-    c.demand.ensures
-    c.meet.ensures.does
+    c.demand.ensures c.meet.ensures.does

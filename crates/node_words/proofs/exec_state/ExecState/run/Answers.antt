@@ -134,8 +134,7 @@ returns-then-going-strides-2-clause-undoable c =
     let first = c.args.self.now in
     let m = c.stride.new.self in
     let b' = c.step_apart.new.self in
-    undoable_both first b' c.run_rest-then-going-strides-2.new.self
-    (undoable_both first m b'
+    undoable_both first b' c.run_rest-then-going-strides-2.new.self (undoable_both first m b'
     (undoable_both first c.loop-going.self m c.loop-going.invariant.undoable c.stride.ensures.undoable)
     c.step_apart.ensures.undoable) c.run_rest-then-going-strides-2.ensures.undoable
 
@@ -171,8 +170,7 @@ returns-in-None-clause-ground c =
     let mid = c.stride.new.going in
     let m = c.stride.new.self in
     let stays = subst (λ (r : Bool). IsTried r (StridesBy c.args.image.now (trail_of c.stride_at-kind.result l.going.at) l.going l.self mid m)
-    l.going l.self mid m)
-    c.if-not-stride.true c.stride.ensures.tried in
+    l.going l.self mid m) c.if-not-stride.true c.stride.ensures.tried in
     ap ground_of (c.in-None.ensures.steps.1 ∙ stays.local) ∙ l.invariant.ground
 
 pub returns-in-None-clause-counts : goal.returns-in-None-clause-counts

@@ -13,5 +13,4 @@ returns-in-Some-clause-steps c =
     let b = c.args.self.now in
     let image = c.args.image.now in
     subst (λ (f : Option ImageWord). StepsOr image (execute_at (program_of b.local.program) f (lane_of b.lane (word_address c.args.at)) (local_of b.local)) b.lane b.local c.silent_read.new.self.lane c.silent_read.new.self.local c.silent_read.result)
-    (c.in-Some.ensures.value ∙ ap (fetch image) c.address_of.ensures)
-    c.silent_read.ensures.steps
+    (c.in-Some.ensures.value ∙ ap (fetch image) c.address_of.ensures) c.silent_read.ensures.steps

@@ -9,11 +9,9 @@ use Rattle.node_words.proofs.exec_state.ExecState.silent_by.Goals as goal
 pub returns-in-Xjalr-clause-steps : goal.returns-in-Xjalr-clause-steps
 returns-in-Xjalr-clause-steps c =
     let b = c.args.self.now in
-    rw c.in-Xjalr.is
-    (subst
+    rw c.in-Xjalr.is (subst
     (λ (x : ℕ). StepsOr c.args.image.now (indirect c.args.place (lane_of b.lane (word_address c.args.at)) (local_of b.local) c.in-Xjalr.rd (x / 2 * 2)) b.lane b.local c.enter_from.new.self.lane c.enter_from.new.self.local c.enter_from.result)
-    c.sum.ensures
-    (c.enter_from.ensures.steps c.args.at))
+    c.sum.ensures (c.enter_from.ensures.steps c.args.at))
 
 pub returns-in-Native-clause-steps : goal.returns-in-Native-clause-steps
 returns-in-Native-clause-steps c = rw c.in-Native.is (c.silent_native.ensures.steps c.args.image.now)
@@ -45,7 +43,6 @@ pub returns-in-Batch-clause-steps : goal.returns-in-Batch-clause-steps
 returns-in-Batch-clause-steps c =
     let b = c.args.self.now in
     let registers = registers_of b.lane.registers in
-    rw c.in-Batch.is
-    (c.silent_check-in-Batch.ensures c.args.image.now
+    rw c.in-Batch.is (c.silent_check-in-Batch.ensures c.args.image.now
     (batch (lane_of b.lane (word_address c.args.at)) (local_of b.local) (need_of_run c.in-Batch.stores) (reg registers c.in-Batch.rs1) (reg registers c.in-Batch.rs2))
     b.lane b.local c.batch.ensures.does)

@@ -9,5 +9,4 @@ pub returns-then-not-store-clause-leaves : goal.returns-then-not-store-clause-le
 returns-then-not-store-clause-leaves c at =
     subst
     (λ (o : Shelf). LeavesBehind (store (program_of o.program) (lane_of c.args.self.now.lane at) (local_of o) c.args.width c.args.address c.args.value (region_of c.args.address)) (ground_of o) at c.store_elsewhere.new.self.lane c.store_elsewhere.new.self.local)
-    (c.if-not-store.ensures.elsewhere refl).0
-    (c.store_elsewhere.ensures.leaves at)
+    (c.if-not-store.ensures.elsewhere refl).0 (c.store_elsewhere.ensures.leaves at)

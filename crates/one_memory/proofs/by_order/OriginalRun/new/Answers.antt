@@ -17,9 +17,9 @@ returns-clause-running c =
     let some = c.number.ensures.range.0 in
     let few = c.number-2.ensures.range.1 in
     let count = c.number-2.ensures.value in
-    let count3 = c.number-3.ensures.value in
-    let all : c.in_ok-collect.field-0.items ≡ range_with_len 0 c.number-3.result = subst (λ r. IfOk r (λ w. vec_items w ≡ range_with_len 0 c.number-3.result)) c.in_ok-collect.was
-    (items_from_collect c.collect.result c.collect.ensures.ran (YieldsList-from_range 0 c.number-3.result c.number-3.result refl (omega arith))) in
+    let count3 = c.as_u8.ensures.value in
+    let all : c.in_ok-collect.field-0.items ≡ range_with_len 0 c.as_u8.result = subst (λ r. IfOk r (λ w. vec_items w ≡ range_with_len 0 c.as_u8.result)) c.in_ok-collect.was
+    (items_from_collect c.collect.result c.collect.ensures.ran (YieldsList-from_range 0 c.as_u8.result c.as_u8.result refl (omega arith))) in
     record {
       few = omega (arith, few, count);
       budget = c.number.ensures.range.1;

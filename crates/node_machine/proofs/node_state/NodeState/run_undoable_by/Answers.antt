@@ -1,19 +1,19 @@
-use Rattle.std.proofs.Common.{◌+◌, ◌*◌, ◌∙◌, ap, sym, subst, refl, length, arith}
+use Rattle.std.proofs.Common.{ℕ, ◌+◌, ◌*◌, ◌∙◌, ap, sym, subst, refl, length, arith}
 use Rattle.block_layout.specs.Layout.{Shape}
-use Rattle.word_visits.specs.node_words.exec_map.Contents.{program_of}
-use Rattle.word_visits.specs.node_words.declared.exec_state.ExecState.{ExecState}
-use Rattle.word_visits.specs.node_words.node_model.Node.{can_execute}
-use Rattle.word_visits.specs.node_words.GoingOn.{BodyGoesOn}
-use Rattle.word_visits.specs.node_words.node_memory.Shelf.{Ground, ground_of}
-use Rattle.word_visits.specs.node_words.UndoLogs.{TakesBack}
+use Rattle.node_words.specs.exec_map.Contents.{program_of}
+use Rattle.node_words.specs.declared.exec_state.ExecState.{ExecState}
+use Rattle.node_words.specs.node_model.Node.{Node, Work, can_execute}
+use Rattle.node_words.specs.GoingOn.{BodyGoesOn, BodyTells}
+use Rattle.node_words.specs.node_memory.Shelf.{Ground, ground_of}
+use Rattle.node_words.specs.UndoLogs.{TakesBack}
 use Rattle.node_machine.specs.NodeState.{layout_of, phase_of, IsProtocolState, AreCountsBelow, WaitsInPhase}
-use Rattle.word_visits.proofs.words.WordLemmas.{still_may}
+use Rattle.node_words.proofs.WordLemmas.{still_may}
 use Rattle.node_machine.proofs.NodeStateLemmas.{counts_up}
-use Rattle.node_machine.proofs.UndoLogLemmas.{goes_on_noted, left_after, noted_waits}
-use Rattle.node_machine.proofs.node_state.NodeState.run_undoable.Goals as goal
+use Rattle.node_machine.proofs.UndoLogLemmas.{goes_on_noted, left_after, noted_waits, tells_noted}
+use Rattle.node_machine.proofs.node_state.NodeState.run_undoable_by.Goals as goal
 
 pub returns-clause-goes_on : goal.returns-clause-goes_on
-returns-clause-goes_on c =
+returns-clause-goes_on g c =
     let i = c.args.self.now in
     let run = c.run_noting-stretch in
     let most = c.most_words-most.result in
@@ -30,13 +30,29 @@ returns-clause-goes_on c =
     (λ some. (c.requires.may (omega (arith, some, few, first, from)), (let low = c.requires.node.lane.going (c.requires.may (omega (arith, some, few, first, from))) in omega (arith, low, second, left, budget))))
     counts c.phase_on-self.ensures
 
+pub returns-clause-learns : goal.returns-clause-learns
+returns-clause-learns g c =
+    let i = c.args.self.now in
+    let run = c.run_noting-stretch in
+    let most = c.most_words-most.result in
+    let few = run.ensures.most in
+    let first = c.most_words-most.ensures.first in
+    let from = c.from.ensures in
+    let second = c.most_words-most.ensures.second in
+    let left = c.saturating_sub-left.ensures in
+    let budget = c.number.ensures.value in
+    let learned = λ (work : Work) (words : ℕ) (n : Node). g.L.WordLoop.learns work words n c.args.by.now run.new.by in
+    tells_noted learned i most run.result.words
+    (subst (λ (x : ExecState). BodyTells learned i.lane.image.now most i.lane.at x run.result.words) c.deref_mut.ensures.value run.ensures.learns)
+    (λ some. (c.requires.may (omega (arith, some, few, first, from)), (let low = c.requires.node.lane.going (c.requires.may (omega (arith, some, few, first, from))) in omega (arith, low, second, left, budget))))
+
 pub returns-clause-may : goal.returns-clause-may
-returns-clause-may c may =
+returns-clause-may g c may =
     let i = c.args.self.now in
     ap can_execute c.phase_on-self.ensures ∙ still_may (phase_of i.lane.phase) c.run_noting-stretch.result.words may
 
 pub returns-clause-back : goal.returns-clause-back
-returns-clause-back c =
+returns-clause-back g c =
     let run = c.run_noting-stretch in
     let body = c.deref_mut.ensures.value in
     record {
@@ -57,13 +73,13 @@ returns-clause-back c =
     }
 
 pub returns-clause-work : goal.returns-clause-work
-returns-clause-work c =
+returns-clause-work g c =
     let i = c.args.self.now in
     let g = c.run_noting-stretch.ensures.back.ground_same ∙ ap (λ (x : ExecState). ground_of x.local) c.deref_mut.ensures.value in
     λ t. record { program = program_of (g t).program; image = i.lane.image.now; layout = (g t).layout; budget = i.lane.budget }
 
 pub returns-clause-node : goal.returns-clause-node
-returns-clause-node c =
+returns-clause-node g c =
     let i = c.args.self.now in
     let n = c.requires.node in
     let run = c.run_noting-stretch in
