@@ -22,8 +22,7 @@ AreShort = (work : Work) (plan : List PlanEntry) (events : List Event)
     → IsRewriting work.program plan work.image → 0 < work.budget
     → IsCoreRun work (opening_core work) events → length events ≤ most_events work
 
-most : (n budget : ℕ) → n ≤ 16 → budget ≤ 2 ^ 32
-    → (4 * n + 5) * (n * budget) + n * n < 2 ^ 56
+most : (n budget : ℕ) → n ≤ 16 → budget ≤ 2 ^ 32 → (4 * n + 5) * (n * budget) + n * n < 2 ^ 56
 most n budget few range =
     let words = mul-le n budget 16 (2 ^ 32) few range in
     let runs = mul-le (4 * n + 5) (n * budget) 69 (16 * 2 ^ 32) (omega arith) words in

@@ -48,15 +48,13 @@ first_alike work n i j c d (w ∷ rest) bi a =
     turn_alike n i (with_list c j i rest) (with_list d j i rest) _ _
     (ap (λ z. take_turn work z j w) (a.nodes i bi)) (list_alike n j i c d rest a)
 
-event_alike : (work : Work) (c d : Core) (e : Event) → May work c e
-    → AreAlike work.layout.nodes c d
+event_alike : (work : Work) (c d : Core) (e : Event) → May work c e → AreAlike work.layout.nodes c d
     → AreAlike work.layout.nodes (event_step work c e) (event_step work d e)
 event_alike work c d (Exec i) may a =
     turn_alike work.layout.nodes i c d _ _ (ap (word_turn work) (a.nodes i may.0)) a
 event_alike work c d (Take i j) may a =
     subst (λ ws. AreAlike work.layout.nodes (event_step work c (Take i j)) (take_first work d i j ws))
-    (a.lists j i may.1 may.0)
-    (first_alike work work.layout.nodes i j c d (c.list j i) may.0 a)
+    (a.lists j i may.1 may.0) (first_alike work work.layout.nodes i j c d (c.list j i) may.0 a)
 
 pub may_alike : (work : Work) (c d : Core) (e : Event) → AreAlike work.layout.nodes c d → May work c e
     → May work d e
@@ -246,8 +244,7 @@ stamped p i are range bi d =
 
 pub can_make : (p : CoreParts) (e : Event) → AreParts p → HasStampsInRange p.layout.nodes (core_of p)
     → May (work_of p) (core_of p) e → CanMake p.layout.nodes p.nodes p.lists e
-can_make p (Exec i) are range may =
-    (may.0, may_execute_at p i are may, stamped p i are range may.0)
+can_make p (Exec i) are range may = (may.0, may_execute_at p i are may, stamped p i are range may.0)
 can_make p (Take i j) are range may = (
   may.0,
   may.1,

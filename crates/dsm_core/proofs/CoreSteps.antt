@@ -1,18 +1,18 @@
 -- Events of nodes and lists, as they are stored.
-use Rattle.std.proofs.Common.{◌≡◌, ℕ, suc, ◌<◌, ◌^◌, true, false, cond, eqb, ltb, ◌&&◌, List, [], ◌∷◌, ◌++◌, map, length, get_or, set, Result, Ok, Err, IfOk, OnOk, OnErr, refl, sym, ap, ◌∙◌, subst, inl, inr, arith}
+use Rattle.std.proofs.Common.{◌≡◌, ℕ, suc, ◌<◌, false, cond, eqb, ltb, ◌&&◌, List, [], ◌∷◌, ◌++◌, map, length, get_or, set, Result, Ok, Err, IfOk, OnOk, OnErr, refl, sym, ap, ◌∙◌, subst, inl, inr, arith}
 use Rattle.std.proofs.Math.Path.{fun_ext}
 use Rattle.std.proofs.lemmas.List.{get_or-map, get_or-set_same, get_or-set_other, get_or_past, get_or_push, get_or_append_left, map-set, map_push, set-get_or, length-map, length-append}
 use Rattle.std.proofs.lemmas.Bool.Decides.{eqb_tells, leb_tells, nat_tests}
 use Rattle.rewriting_law.specs.dsm_messages.declared.messages.Post.{Post}
 use Rattle.rewriting_law.specs.dsm_messages.declared.messages.Wire.{Wire}
-use Rattle.run_order.specs.node_model.Node.{Work, Node, opening_node, can_execute}
+use Rattle.run_order.specs.node_model.Node.{Work, Node, opening_node}
 use Rattle.run_order.specs.node_model.Turns.{Turn, word_turn, take_turn}
 use Rattle.run_order.specs.node_model.Core.{Core, Event, Exec, Take, wires_to, with_turn, with_list, take_first, event_step, AreAlike}
 use Rattle.node_machine.specs.declared.node_state.NodeState.{NodeState}
 use Rattle.node_machine.specs.NodeState.{node_of, work_of as work_at}
 use Rattle.rewriting_law.specs.dsm_protocol.Queue.{Queue, wires_of, SameWires, IsSent, IsTaken}
 use Rattle.dsm_core.specs.CoreParts.{core_with, HaveWork}
-use Rattle.dsm_core.specs.CoreSteps.{node_or, SameNodes, MayExecute, IsStamped, HaveMade, HaveKept, HavePassed}
+use Rattle.dsm_core.specs.CoreSteps.{node_or, SameNodes, HaveMade, HaveKept, HavePassed}
 
 -- 1. A place of the nodes
 
@@ -169,16 +169,6 @@ first_more f ns x d me len have e i =
     ])
 
 -- 5. Nodes that stand for the same
-
-pub may_same : (ns0 ns1 : List NodeState) (i : ℕ) → SameNodes ns0 ns1 → MayExecute ns0 i
-    → MayExecute ns1 i
-may_same ns0 ns1 i same may d =
-    subst (λ (ms : List Node). can_execute (get_or ms i d).phase ≡ true) (sym same.nodes) (may d)
-
-pub stamp_same : (ns0 ns1 : List NodeState) (i : ℕ) → SameNodes ns0 ns1 → IsStamped ns0 i
-    → IsStamped ns1 i
-stamp_same ns0 ns1 i same stamp d =
-    subst (λ (ms : List Node). (get_or ms i d).stamp < 2 ^ 56) (sym same.nodes) (stamp d)
 
 have_same : (work : Work) (ns0 ns1 : List NodeState) → SameNodes ns0 ns1 → HaveWork work ns0
     → HaveWork work ns1

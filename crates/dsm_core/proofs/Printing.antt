@@ -107,8 +107,7 @@ weigh_below : (f : Printed → ℕ) (nodes : ℕ → Node) (k : ℕ) (xs : List 
 weigh_below f nodes zero xs each = refl
 weigh_below f nodes (suc k) xs each =
     weigh_append (λ x. f (merge_form x)) (printed_below nodes k)
-    (map (printed_of k) (nodes k).output)
-    ∙ ap₂ (λ a b. a + b)
+    (map (printed_of k) (nodes k).output) ∙ ap₂ (λ a b. a + b)
     (weigh_below f nodes k xs (λ i lt. each i (omega (arith, lt))))
     (weigh_output f k (nodes k).output ∙ ap (weigh f) (sym (each k (omega arith))))
 
@@ -266,8 +265,7 @@ sorted_is n nodes all sorted merge few is moved up are =
 
 -- 5. A node that is over has ended
 
-over_in : (work : Work) (n : Node) (p : Phase) → standing_in work n p ≡ Over
-    → end_of p ≡ None → ⊥
+over_in : (work : Work) (n : Node) (p : Phase) → standing_in work n p ≡ Over → end_of p ≡ None → ⊥
 over_in work n Running over none =
     (elim (is_at_poll work n) as (λ b. cond b AtPoll Going ≡ Over → ⊥)
     [ true ↦ (λ e. cc) | false ↦ (λ e. cc) ]) over

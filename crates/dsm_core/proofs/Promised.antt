@@ -19,8 +19,7 @@ HaveOwnRun = (work : Work) (run : List Event) → IsCoreRun work (opening_core w
     → (events : List Stamped) × StandsForOwnRun work (after work (opening_core work) run) events
 
 pub stands_alike : (work : Work) (c d : Core) (events : List Stamped)
-    → AreAlike work.layout.nodes c d → StandsForOwnRun work d events
-    → StandsForOwnRun work c events
+    → AreAlike work.layout.nodes c d → StandsForOwnRun work d events → StandsForOwnRun work c events
 stands_alike work c d events a stands = record {
   are_events = record {
     sorted = stands.are_events.sorted;

@@ -37,8 +37,7 @@ gone_then work k c d e p q = gone_one work (k + 1) c e (omega arith)
 -- then nothing
 pub gone_still : (work : Work) (k : ℕ) (c d e : Core) → HasGone work k c d → HasGone work 0 d e
     → HasGone work k c e
-gone_still work k c d e p q =
-    subst (λ (z : Core). HasGone work k c z) (sym (q.same refl)) p
+gone_still work k c d e p q = subst (λ (z : Core). HasGone work k c z) (sym (q.same refl)) p
 
 pub gone_flag : (work : Work) (k : ℕ) (c d : Core) → HasGone work k c d
     → HasGone work (one_if (ltb 0 k)) c d
@@ -53,8 +52,7 @@ gone_flag work k c d p = elim (leb_tells 1 k) [
 -- events of other work that is the same
 pub goes_there : (v work : Work) (c d e : Core) → v ≡ work → GoesOnTo work c d → GoesOnTo v d e
     → GoesOnTo work c e
-goes_there v work c d e is p q =
-    goes_also work c d e p (subst (λ (w : Work). GoesOnTo w d e) is q)
+goes_there v work c d e is p q = goes_also work c d e p (subst (λ (w : Work). GoesOnTo w d e) is q)
 
 pub kept_there : (work : Work) (c d e : Core) → e ≡ d → GoesOnTo work c d → GoesOnTo work c e
 kept_there work c d e same p = subst (λ (z : Core). GoesOnTo work c z) (sym same) p

@@ -14,11 +14,10 @@ use Rattle.run_order.specs.node_model.Core.{Core, Exec, May, may_execute, wires_
 use Rattle.node_machine.specs.declared.node_state.NodeState.{NodeState}
 use Rattle.node_machine.specs.NodeState.{node_of, work_of as work_at}
 use Rattle.node_machine.specs.Runs.{HasExecuted, GoesOnBy as HasGoneBy}
-use Rattle.node_machine.specs.word_visits.Visits.{AreCounted, WordVisits}
 use Rattle.rewriting_law.specs.dsm_protocol.Queue.{Queue, SameWires, IsSent}
 use Rattle.dsm_core.specs.CoreParts.{core_with, GoesOnTo}
 use Rattle.dsm_core.specs.CoreWords.{GoesOnBy, HasExecutedOn, HasPassed, HasPassedWords}
-use Rattle.dsm_core.specs.CoreSteps.{node_or, SameNodes, HaveCounted, HavePassed, HavePassedWords, HaveExecutedOn, GoesOnFor}
+use Rattle.dsm_core.specs.CoreSteps.{node_or, SameNodes, HasLearned, HavePassed, HavePassedWords, HaveExecutedOn, GoesOnFor}
 use Rattle.dsm_core.proofs.CoreSteps.{same_node, same_work, set_node, turned}
 use Rattle.dsm_core.proofs.CoreRuns.{alike_also, alike_same, goes_nowhere, goes_once, goes_also, for_one, for_also}
 
@@ -76,14 +75,8 @@ no_more false xs = refl
 
 turn_alone : (n i : ℕ) (m : Node) (c : Core) → IsNodeAlone n i m c (with_turn c i (silent m))
 turn_alone n i m c = record {
-  node = elim (eqb_tells i i) [
-    | inl t ↦ rw t.0 refl
-    | inr t ↦ absurd (t.1 refl)
-  ];
-  others = λ k other. elim (eqb_tells k i) [
-    | inl t ↦ absurd (other t.1)
-    | inr t ↦ rw t.0 refl
-  ];
+  node = elim (eqb_tells i i) [ inl t ↦ rw t.0 refl | inr t ↦ absurd (t.1 refl) ];
+  others = λ k other. elim (eqb_tells k i) [ inl t ↦ absurd (other t.1) | inr t ↦ rw t.0 refl ];
   lists = λ j k. no_more (eqb j i) (c.list j k);
 }
 
@@ -270,14 +263,14 @@ passed_words n i words ns x y len bi is goes can work lists e have =
       ])) can;
     }
 
--- the words that count are those of the node as it was stored
-pub counted_words : (n i words : ℕ) (ns : List NodeState) (x : NodeState) (vs ws : List WordVisits) → length ns ≡ n → i < n
-    → x ≡ get_or ns i x → AreCounted (work_at x) words (node_of x) vs ws → HaveCounted n i words ns vs ws
-counted_words n i words ns x vs ws len bi is are work m e have =
+-- what is learned of words is learned of those of the node as it was stored
+pub learned_words : (learned : Work → ℕ → Node → Type 0) (n i words : ℕ) (ns : List NodeState) (x : NodeState) → length ns ≡ n
+    → i < n → x ≡ get_or ns i x → learned (work_at x) words (node_of x) → HasLearned n i words ns learned
+learned_words learned n i words ns x len bi is are work m e have =
     let below : i < length ns = subst (λ z. i < z) (sym len) bi in
     let same : SameNodes ns ns = record { nodes = refl; works = refl } in
-    subst (λ (z : Node). AreCounted work words z vs ws) (same_node ns ns i x m below same is)
-    (subst (λ (z : Work). AreCounted z words (node_of x) vs ws) (same_work work ns ns i x below same is have) are)
+    subst (λ (z : Node). learned work words z) (same_node ns ns i x m below same is)
+    (subst (λ (z : Work). learned z words (node_of x)) (same_work work ns ns i x below same is have) are)
 
 -- 5. Where words lead
 
@@ -298,8 +291,7 @@ executed_goes work i words c d ran =
 
 pub passed_goes : (b : Bool) (work : Work) (i : ℕ) (c d : Core) → May work c (Exec i)
     → (b ≡ true → HasPassed work i c d) → (b ≡ false → d ≡ c) → GoesOnTo work c d
-passed_goes true work i c d may passed kept =
-    goes_once work c d (Exec i) may (passed refl).event
+passed_goes true work i c d may passed kept = goes_once work c d (Exec i) may (passed refl).event
 passed_goes false work i c d may passed kept =
     subst (λ (z : Core). GoesOnTo work c z) (sym (kept refl)) (goes_nowhere work c)
 

@@ -1,16 +1,14 @@
 -- Helps the code alone: events of nodes and lists, as they are stored.
 use Rattle.std.specs.Prelude.{◌≡◌, ◌≢◌, ℕ, ◌<◌, ◌≤◌, ◌^◌, Bool, true, if◌then◌else◌, List, [], ◌∷◌, map, slice_index_or, length}
 use Rattle.rewriting_law.specs.dsm_messages.declared.messages.Wire.{Wire}
+use Rattle.node_machine.specs.jump_map.Image.{Cell}
 use Rattle.run_order.specs.node_model.Node.{Work, Node, opening_node, can_execute}
 use Rattle.run_order.specs.node_model.Core.{Core, Event, Exec, Take, May, event_step, AreAlike}
 use Rattle.node_machine.specs.declared.node_state.NodeState.{NodeState}
 use Rattle.node_machine.specs.NodeState.{node_of, work_of as work_at, HasRoom}
-use Rattle.node_machine.specs.word_visits.declared.visits.Visits.{Visits}
-use Rattle.node_machine.specs.word_visits.Visits.{AreCounted, WordVisits}
-use Rattle.node_machine.specs.word_visits.VisitTables.{AreVisitsIn}
 use Rattle.rewriting_law.specs.dsm_protocol.Queue.{Queue, wires_of}
 use Rattle.dsm_core.specs.CoreParts.{core_with, HaveWork, GoesOnTo}
-use Rattle.dsm_core.specs.CoreWords.{HasExecutedOn, HasPassed, HasPassedWords}
+use Rattle.dsm_core.specs.CoreWords.{HasExecutedOn, HasPassed, HasPassedWords, LearnsBelow}
 
 -- node i, where there is one
 abbrev pub node_or : List NodeState → ℕ → Node → Node
@@ -73,16 +71,22 @@ HavePassedWords n i words old new = (work : Work) (lists : List Queue) → work.
     → HaveWork work old
     → HasPassedWords work i words (core_with work old lists) (core_with work new lists)
 
--- the nodes run words of which these are visits
-pub record HaveVisits (nodes : List NodeState) (visits : Visits) : Type 0 where
+-- the nodes run an image of which this holds
+pub record HaveImage (nodes : List NodeState) (holds : List Cell → Type 0) : Type 0 where
   pub work : Work
   pub runs : HaveWork work nodes
-  pub table : AreVisitsIn work.image visits
+  pub image : holds work.image
 
--- so many of node i's next words count, whatever they run
-abbrev pub HaveCounted : (n i words : ℕ) → List NodeState → (before after : List WordVisits) → Type 0
-HaveCounted n i words nodes vs ws = (work : Work) (m : Node) → work.layout.nodes ≡ n
-    → HaveWork work nodes → AreCounted work words (node_or nodes i m) vs ws
+-- so much is learned of so many of node i's next words, whatever they run
+abbrev pub HasLearned : (n i words : ℕ) → List NodeState → (Work → ℕ → Node → Type 0) → Type 0
+HasLearned n i words nodes learned = (work : Work) (m : Node) → work.layout.nodes ≡ n
+    → HaveWork work nodes → learned work words (node_or nodes i m)
+
+-- and of so many next words of each node below k, by number, whatever they run
+abbrev pub HaveLearnedBelow : {L : Type 0} → (Work → ℕ → Node → L → L → Type 0) → (words : ℕ → ℕ)
+    → (k : ℕ) → List NodeState → (old new : L) → Type 0
+HaveLearnedBelow learns words k nodes l m = (work : Work) (lists : List Queue) → HaveWork work nodes
+    → LearnsBelow learns work words k (core_with work nodes lists) l m
 
 -- node i has executed so many words, whatever they run
 abbrev pub HaveExecutedOn : (n i words : ℕ) (old_nodes new_nodes : List NodeState)

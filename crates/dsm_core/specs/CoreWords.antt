@@ -1,8 +1,7 @@
 -- Words of one node of a core, one after another.
-use Rattle.std.specs.Prelude.{◌≡◌, ℕ, zero, suc, ◌+◌, ◌<◌, List}
-use Rattle.run_order.specs.node_model.Node.{Work}
+use Rattle.std.specs.Prelude.{◌≡◌, ℕ, zero, suc, ◌+◌, ◌<◌}
+use Rattle.run_order.specs.node_model.Node.{Node, Work}
 use Rattle.node_machine.specs.Runs.{GoesOnBy as NodeGoesOnBy}
-use Rattle.node_machine.specs.word_visits.Tallies.{AreTallied, WordTally, steps_of}
 use Rattle.run_order.specs.node_model.Turns.{silent, word_turn}
 use Rattle.run_order.specs.node_model.Core.{Core, Exec, May, AreAlike, event_step}
 
@@ -44,13 +43,10 @@ pub record HaveEachPassed (work : Work) (words : ℕ → ℕ) (c d : Core) : Typ
   pub may : (i : ℕ) → May work c (Exec i) → May work d (Exec i)
   pub lists : (j i : ℕ) → j < work.layout.nodes → i < work.layout.nodes → d.list j i ≡ c.list j i
 
--- of each node so many next words, by number, are tallied
-abbrev pub AreEachTallied : Work → (words : ℕ → ℕ) → Core → List WordTally → Type 0
-AreEachTallied work words c ts =
-    (i : ℕ) → i < work.layout.nodes → AreTallied work (words i) (c.nodes i) ts
-
--- how many of so many next words of each node below a number count
-abbrev pub steps_below : Work → (words : ℕ → ℕ) → ℕ → Core → List WordTally → ℕ
-steps_below work words zero c ts = 0
-steps_below work words (suc k) c ts =
-    steps_below work words k c ts + steps_of work (words k) (c.nodes k) ts
+-- what a loop learns of so many next words of each node below a number, by number: it goes from the
+-- first node to the last
+abbrev pub LearnsBelow : {L : Type 0} → (Work → ℕ → Node → L → L → Type 0) → Work
+    → (words : ℕ → ℕ) → ℕ → Core → (old new : L) → Type 0
+LearnsBelow learns work words zero c l m = l ≡ m
+LearnsBelow {L} learns work words (suc k) c l m =
+    (here : L) × LearnsBelow learns work words k c l here × learns work (words k) (c.nodes k) here m

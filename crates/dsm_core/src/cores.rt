@@ -14,13 +14,11 @@ ghost use Rattle.rewriting_law.specs.dsm_protocol.Buffers.{AreInOnePlace};
 ghost use Rattle.dsm_core.specs.CoreParts.{work_of, work_in, core_of, event_of, AreParts, GoesOnTo};
 ghost use Rattle.dsm_core.specs.CoreParts.{HasStampsInRange};
 ghost use Rattle.dsm_core.specs.CoreWords.{HasPassed, HasPassedWords, HasExecutedOn};
-ghost use Rattle.dsm_core.specs.CoreWords.{AreEachTallied, HaveEachPassed, steps_below};
+ghost use Rattle.dsm_core.specs.CoreWords.{HaveEachPassed, LearnsBelow};
 ghost use Rattle.dsm_core.specs.CoreSteps.{GoesOnFor};
-ghost use Rattle.node_machine.specs.word_visits.Visits.{AreCounted};
-ghost use Rattle.node_machine.specs.word_visits.TallyTables.{AreTalliesIn, tallies_of};
-ghost use Rattle.node_machine.specs.word_visits.VisitTables.{AreVisitsIn, StayVisits, visits_of};
 ghost use Rattle.dsm_core.specs.Seen.{IsFirstIn, IsSeen};
 ghost use Rattle.node_machine.specs.NodeState.{node_of, work_of as work_at};
+ghost use Rattle.node_machine.specs.jump_map.Image.{Cell};
 
 use crate::parts::Parts;
 use crate::seen::{Incoming, Seen};
@@ -28,7 +26,8 @@ use crate::steps::first_nodes;
 use crate::undo_logs::{StoppedEarly, UndoLogs};
 use crate::work::Work;
 use block_layout::{Layout, layout_law};
-use node_machine::{Node, Tallies, Visits};
+use node_machine::Node;
+use node_machine::node_words::{PlainLoop, WordLoop};
 use rewriting_law::dsm_messages::Sends;
 use rewriting_law::dsm_protocol::buffer_law;
 use rewriting_law::dsm_protocol::lists::empty_lists;
@@ -227,7 +226,7 @@ impl<'a> Core<'a> {
     }
 
     /// Executes words of a node, as long as they print nothing and send nothing, and the node may
-    /// execute another behind them: at most so many. It gives how many.
+    /// execute another after them, at most `most`. It gives how many.
     pub fn run_silent(&mut self, node: u8, most: u64) -> u64
         requires enabled { May (work_of self.old) (core_of self.old) (model.Exec node) }
         ensures passed { HasPassedWords (work_of self.old) node result
@@ -236,30 +235,30 @@ impl<'a> Core<'a> {
         ensures work { work_of self.new ≡ work_of self.old }
     {
         self.bounds();
-        self.parts.run_silent(node, most)
+        self.parts.run_by(node, &mut PlainLoop, most)
     }
 
-    /// Executes words of a node one by one, as long as they print nothing and send nothing, count
-    /// among the visits, and the node may execute another behind them: at most so many. It gives
-    /// how many.
-    pub fn run_visiting(&mut self, node: u8, most: u64, visits: &mut Visits) -> u64
+    /// Executes words of a node by a loop, as long as they print nothing and send nothing, and the
+    /// node may execute another after them, at most `most`. It gives how many.
+    pub fn run_by<L: WordLoop>(&mut self, node: u8, by: &mut L, most: u64) -> u64
         requires enabled { May (work_of self.old) (core_of self.old) (model.Exec node) }
-        requires table { AreVisitsIn (work_of self.old).image visits.old }
+        requires goes_over { L.goes_over (work_of self.old).image by.old }
         ensures passed { HasPassedWords (work_of self.old) node result
             (core_of self.old) (core_of self.new) }
-        ensures visits { AreCounted (work_of self.old) result ((core_of self.old).nodes node)
-            (visits_of visits.old) (visits_of visits.new) }
-        ensures table { StayVisits visits.old visits.new }
+        ensures learns { L.learns (work_of self.old) result ((core_of self.old).nodes node)
+            by.old by.new }
+        ensures stays { (image : List Cell) → L.goes_over image by.old
+            → L.goes_over image by.new }
         ensures most { result ≤ most }
         ensures work { work_of self.new ≡ work_of self.old }
     {
         self.bounds();
-        self.parts.run_visiting(node, most, visits)
+        self.parts.run_by(node, by, most)
     }
 
-    /// Each node executes so many words, by its number, where their micro-ops serve all of them:
-    /// such words print nothing and send nothing, and a node that may execute a word still may.
-    /// Otherwise nothing changes, and the answer tells a node that stopped early.
+    /// Each node executes its number of words, where their micro-ops serve all of them: such words
+    /// print nothing and send nothing, and a node that may execute a word still may. Otherwise
+    /// nothing changes, and the answer tells a node that stopped early.
     pub fn run_each_undoable(
         &mut self,
         words: &[u32; 16],
@@ -277,42 +276,40 @@ impl<'a> Core<'a> {
         ensures work { work_of self.new ≡ work_of self.old }
     {
         self.bounds();
-        self.parts.run_each_undoable(words, undo_logs)
+        self.parts.run_each_by(&mut PlainLoop, words, undo_logs)
     }
 
-    /// Each node executes so many words, by its number, where their micro-ops serve all of them
-    /// and all are tallied, and the answer gives how many of them count, of all nodes together.
-    /// Such words print nothing and send nothing, and a node that may execute a word still may.
-    /// Otherwise nothing changes, and the answer tells a node that stopped early.
-    pub fn run_each_counting(
+    /// Each node executes so many words by a loop, by its number, where their micro-ops serve all of
+    /// them: such words print nothing and send nothing, and a node that may execute a word still
+    /// may. Otherwise nothing changes, and the answer tells a node that stopped early.
+    pub fn run_each_by<L: WordLoop>(
         &mut self,
+        by: &mut L,
         words: &[u32; 16],
         undo_logs: &mut UndoLogs,
-        tallies: &Tallies,
-    ) -> Result<u64, StoppedEarly>
+    ) -> Result<(), StoppedEarly>
         requires undo_logs { undo_logs.old ≡ self.old.layout.nodes }
         requires nodes { self.old.layout.nodes ≤ 16 }
         requires enabled { (i : ℕ) → i < self.old.layout.nodes
             → 1 ≤ slice_index_or words.now i 0
             → May (work_of self.old) (core_of self.old) (model.Exec i) }
-        requires table { AreTalliesIn (work_of self.old).image tallies.now }
-        ensures passed { IfOk result (λ steps. HaveEachPassed (work_of self.old)
+        requires goes_over { L.goes_over (work_of self.old).image by.old }
+        ensures passed { IfOk result (λ u. HaveEachPassed (work_of self.old)
             (λ i. slice_index_or words.now i 0) (core_of self.old) (core_of self.new)) }
-        ensures tallied { IfOk result (λ steps. AreEachTallied (work_of self.old)
-            (λ i. slice_index_or words.now i 0) (core_of self.old) (tallies_of tallies.now)) }
-        ensures steps { IfOk result (λ steps. steps ≡ steps_below (work_of self.old)
+        ensures learns { IfOk result (λ u. LearnsBelow L.learns (work_of self.old)
             (λ i. slice_index_or words.now i 0) self.old.layout.nodes (core_of self.old)
-            (tallies_of tallies.now)) }
+            by.old by.new) }
+        ensures stays { (image : List Cell) → L.goes_over image by.old → L.goes_over image by.new }
         ensures kept { OnErr result (core_of self.new ≡ core_of self.old) }
         ensures undo_logs { undo_logs.new ≡ undo_logs.old }
         ensures work { work_of self.new ≡ work_of self.old }
     {
         self.bounds();
-        self.parts.run_each_counting(words, undo_logs, tallies)
+        self.parts.run_each_by(by, words, undo_logs)
     }
 
-    /// Executes words of a node, of which those before the last print nothing and send nothing, and
-    /// gives how many. It takes its memory first.
+    /// Executes words of a node, and gives how many. Those before the last print nothing and send
+    /// nothing. It takes its memory first.
     pub fn run_until_send(&mut self, node: u8) -> Result<u64, AllocError>
         requires enabled { May (work_of self.old) (core_of self.old) (model.Exec node) }
         ensures ran { IfOk result (λ words. HasExecutedOn (work_of self.old) node words

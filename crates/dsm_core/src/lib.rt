@@ -1,4 +1,7 @@
 //! n nodes that run rewritten code, and the lists of messages between them.
+//!
+//! It hands on [`node_machine`], whose nodes it has, and the laws of its runs: [`run_order`] and
+//! [`rewriting_law`].
 #![tactic(auto)]
 
 mod cores;
@@ -8,6 +11,7 @@ mod parts;
 mod seen;
 mod steps;
 mod undo_logs;
+mod word_runs;
 mod work;
 
 pub use cores::{Core, Event};

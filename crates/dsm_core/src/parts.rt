@@ -1,31 +1,29 @@
 //! The nodes and lists of a core, as they are stored, and their events.
 
-ghost use Rattle.std.specs.Prelude.{◌≡◌, ◌≢◌, ◌<◌, ◌≤◌, ◌↔◌, ℕ, [], true, false, IfOk, OnOk, OnErr};
+ghost use Rattle.std.specs.Prelude.{◌≡◌, ◌≢◌, ◌<◌, ◌≤◌, ◌↔◌, ℕ, List, [], true, false, IfOk, OnOk, OnErr};
 ghost use Rattle.std.specs.Prelude.{slice_index_or, MatchOption};
 ghost use Rattle.run_order.specs.node_model.Core as model;
 ghost use Rattle.run_order.specs.node_model.Core.{May, IsOver, AreAlike, event_step};
 ghost use Rattle.node_machine.specs.NodeState.{node_of, work_of as work_at};
-ghost use Rattle.node_machine.specs.word_visits.Visits.{AreCounted};
-ghost use Rattle.node_machine.specs.word_visits.TallyTables.{AreTalliesIn, tallies_of};
-ghost use Rattle.node_machine.specs.word_visits.VisitTables.{AreVisitsIn, StayVisits, visits_of};
+ghost use Rattle.node_machine.specs.jump_map.Image.{Cell};
 ghost use Rattle.dsm_core.specs.CoreParts.{work_of, core_of, event_of, AreParts, HasStampsInRange};
 ghost use Rattle.dsm_core.specs.CoreWords.{HasPassed, HasPassedWords, HasExecutedOn};
-ghost use Rattle.dsm_core.specs.CoreWords.{AreEachTallied, HaveEachPassed, steps_below};
+ghost use Rattle.dsm_core.specs.CoreWords.{HaveEachPassed, LearnsBelow};
 ghost use Rattle.dsm_core.specs.Seen.{IsFirstIn, IsSeen};
 
 use crate::cores::Event;
 use crate::seen::{Incoming, Seen, first, make_seen};
-use crate::steps::{
-    are_over, exec_silent, has_mail, has_wire, is_enabled, make, run_silent, run_until_send,
-    run_visiting,
-};
-use crate::undo_logs::{StoppedEarly, UndoLogs, run_each_counting, run_each_undoable};
+use crate::steps::{are_over, exec_silent, is_enabled, make, run_until_send};
+use crate::undo_logs::{StoppedEarly, UndoLogs, run_each_by};
+use crate::word_runs::run_by;
 use block_layout::Layout;
+use node_machine::Node;
 use node_machine::exec_map::Program;
 use node_machine::jump_map::Image;
-use node_machine::{Node, Tallies, Visits};
+use node_machine::node_words::WordLoop;
 use rewriting_law::dsm_messages::Sends;
 use rewriting_law::dsm_protocol::Queue;
+use rewriting_law::dsm_protocol::lists::{has_mail, has_wire};
 use run_limits::Budget;
 use std::alloc::AllocError;
 use std::marker::Model;
@@ -162,45 +160,32 @@ impl<'a> Parts<'a> {
         exec_silent(&mut self.nodes, count, node)
     }
 
-    /// A node executes words that print nothing and send nothing, at most so many.
-    pub(crate) fn run_silent(&mut self, node: u8, most: u64) -> u64
+    /// A node executes words by a loop, as long as they print nothing and send nothing, at most so
+    /// many.
+    pub(crate) fn run_by<L: WordLoop>(&mut self, node: u8, by: &mut L, most: u64) -> u64
         requires parts { AreParts self.old }
         requires range { HasStampsInRange self.old.layout.nodes (core_of self.old) }
         requires enabled { May (work_of self.old) (core_of self.old) (model.Exec node) }
+        requires goes_over { L.goes_over (work_of self.old).image by.old }
         ensures parts { AreParts self.new }
         ensures work { work_of self.new ≡ work_of self.old }
         ensures passed { HasPassedWords (work_of self.old) node result
             (core_of self.old) (core_of self.new) }
+        ensures learns { L.learns (work_of self.old) result ((core_of self.old).nodes node)
+            by.old by.new }
+        ensures stays { (image : List Cell) → L.goes_over image by.old
+            → L.goes_over image by.new }
         ensures most { result ≤ most }
     {
         let count = self.layout.nodes();
-        run_silent(&mut self.nodes, count, node, most)
+        run_by(&mut self.nodes, count, node, by, most)
     }
 
-    /// A node executes words that print nothing and send nothing and count among the visits, at
-    /// most so many.
-    pub(crate) fn run_visiting(&mut self, node: u8, most: u64, visits: &mut Visits) -> u64
-        requires parts { AreParts self.old }
-        requires range { HasStampsInRange self.old.layout.nodes (core_of self.old) }
-        requires enabled { May (work_of self.old) (core_of self.old) (model.Exec node) }
-        requires table { AreVisitsIn (work_of self.old).image visits.old }
-        ensures parts { AreParts self.new }
-        ensures work { work_of self.new ≡ work_of self.old }
-        ensures passed { HasPassedWords (work_of self.old) node result
-            (core_of self.old) (core_of self.new) }
-        ensures visits { AreCounted (work_of self.old) result ((core_of self.old).nodes node)
-            (visits_of visits.old) (visits_of visits.new) }
-        ensures table { StayVisits visits.old visits.new }
-        ensures most { result ≤ most }
-    {
-        let count = self.layout.nodes();
-        run_visiting(&mut self.nodes, count, node, most, visits)
-    }
-
-    /// Each node executes so many words, by its number, where their micro-ops serve all of them;
-    /// otherwise nothing changes.
-    pub(crate) fn run_each_undoable(
+    /// Each node executes so many words by a loop, by its number, where their micro-ops serve all of
+    /// them; otherwise nothing changes.
+    pub(crate) fn run_each_by<L: WordLoop>(
         &mut self,
+        by: &mut L,
         words: &[u32; 16],
         undo_logs: &mut UndoLogs,
     ) -> Result<(), StoppedEarly>
@@ -211,56 +196,23 @@ impl<'a> Parts<'a> {
         requires enabled { (i : ℕ) → i < self.old.layout.nodes
             → 1 ≤ slice_index_or words.now i 0
             → May (work_of self.old) (core_of self.old) (model.Exec i) }
+        requires goes_over { L.goes_over (work_of self.old).image by.old }
         ensures parts { AreParts self.new }
         ensures work { work_of self.new ≡ work_of self.old }
         ensures passed { IfOk result (λ u. HaveEachPassed (work_of self.old)
             (λ i. slice_index_or words.now i 0) (core_of self.old) (core_of self.new)) }
-        ensures kept { OnErr result (core_of self.new ≡ core_of self.old) }
-        ensures undo_logs { undo_logs.new ≡ undo_logs.old }
-    {
-        let count = self.layout.nodes();
-        run_each_undoable(&mut self.nodes, &mut undo_logs.undo_logs, count, words)
-    }
-
-    /// Each node executes so many words, by its number, where their micro-ops serve all of them
-    /// and all are tallied, and the answer gives how many of them count; otherwise nothing changes.
-    pub(crate) fn run_each_counting(
-        &mut self,
-        words: &[u32; 16],
-        undo_logs: &mut UndoLogs,
-        tallies: &Tallies,
-    ) -> Result<u64, StoppedEarly>
-        requires parts { AreParts self.old }
-        requires range { HasStampsInRange self.old.layout.nodes (core_of self.old) }
-        requires undo_logs { undo_logs.old ≡ self.old.layout.nodes }
-        requires nodes { self.old.layout.nodes ≤ 16 }
-        requires enabled { (i : ℕ) → i < self.old.layout.nodes
-            → 1 ≤ slice_index_or words.now i 0
-            → May (work_of self.old) (core_of self.old) (model.Exec i) }
-        requires table { AreTalliesIn (work_of self.old).image tallies.now }
-        ensures parts { AreParts self.new }
-        ensures work { work_of self.new ≡ work_of self.old }
-        ensures passed { IfOk result (λ steps. HaveEachPassed (work_of self.old)
-            (λ i. slice_index_or words.now i 0) (core_of self.old) (core_of self.new)) }
-        ensures tallied { IfOk result (λ steps. AreEachTallied (work_of self.old)
-            (λ i. slice_index_or words.now i 0) (core_of self.old) (tallies_of tallies.now)) }
-        ensures steps { IfOk result (λ steps. steps ≡ steps_below (work_of self.old)
+        ensures learns { IfOk result (λ u. LearnsBelow L.learns (work_of self.old)
             (λ i. slice_index_or words.now i 0) self.old.layout.nodes (core_of self.old)
-            (tallies_of tallies.now)) }
+            by.old by.new) }
+        ensures stays { (image : List Cell) → L.goes_over image by.old → L.goes_over image by.new }
         ensures kept { OnErr result (core_of self.new ≡ core_of self.old) }
         ensures undo_logs { undo_logs.new ≡ undo_logs.old }
     {
         let count = self.layout.nodes();
-        run_each_counting(
-            &mut self.nodes,
-            &mut undo_logs.undo_logs,
-            count,
-            words,
-            tallies,
-        )
+        run_each_by(&mut self.nodes, &mut undo_logs.undo_logs, count, by, words)
     }
 
-    /// A node executes words, of which those before the last print nothing and send nothing.
+    /// A node executes words. Those before the last print nothing and send nothing.
     pub(crate) fn run_until_send(&mut self, node: u8) -> Result<u64, AllocError>
         requires parts { AreParts self.old }
         requires range { HasStampsInRange self.old.layout.nodes (core_of self.old) }

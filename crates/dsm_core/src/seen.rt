@@ -132,7 +132,7 @@ fn take_seen(
 {
     make_room(nodes, lists, count, node)?;
     let wire = take_first(lists, count, from, node);
-    let turn = nodes[node as usize].take(from, wire, sends);
+    let turn = nodes[node as usize].take_into(from, wire, sends);
     let seen = Seen {
         sends: headers_of(sends),
         wants: None,

@@ -1,25 +1,22 @@
 //! Events of nodes that run rewritten code, and of the lists between them.
 
-ghost use Rattle.std.specs.Prelude.{◌≡◌, ◌≢◌, ◌<◌, ◌≤◌, ◌↔◌, ℕ, List, [], true, false, length};
+ghost use Rattle.std.specs.Prelude.{◌≡◌, ◌<◌, ◌↔◌, List, true, false, length};
 ghost use Rattle.std.specs.Prelude.{IfOk, OnOk, OnErr};
 ghost use Rattle.run_order.specs.node_model.Node.{Work, IsLaidOver, standing_of};
 ghost use Rattle.run_order.specs.node_model.Core as model;
 ghost use Rattle.rewriting_law.specs.dsm_protocol.Queue.{Queue as Stored, AreQueues, SameWires};
 ghost use Rattle.rewriting_law.specs.dsm_protocol.Queue.{HasRoom};
-ghost use Rattle.rewriting_law.specs.dsm_protocol.Queue.{wires_of};
 ghost use Rattle.dsm_core.specs.CoreParts.{work_in, core_with, event_of, HaveWork};
 ghost use Rattle.run_order.specs.node_model.Core.{IsOver};
 ghost use Rattle.dsm_core.specs.CoreSteps.{SameNodes, SameWorks, HasNodeRoom, CanExecute, HaveMade};
 ghost use Rattle.dsm_core.specs.CoreSteps.{HaveKept, HavePassed, HaveExecutedOn, AreFirst, CanMake};
-ghost use Rattle.dsm_core.specs.CoreSteps.{HaveCounted, HavePassedWords, HaveVisits};
-ghost use Rattle.node_machine.specs.word_visits.VisitTables.{StayVisits, visits_of};
 
 use crate::cores::Event;
 use crate::work;
-use node_machine::{Node, Standing, Visits};
+use node_machine::{Node, Standing};
 use rewriting_law::dsm_messages::Sends;
 use rewriting_law::dsm_protocol::Queue;
-use rewriting_law::dsm_protocol::lists::{first_wire, reserve_from, send, take_first};
+use rewriting_law::dsm_protocol::lists::{has_wire, reserve_from, send, take_first};
 use std::alloc::{AllocError, Global};
 
 /// The nodes at the start.
@@ -42,34 +39,6 @@ pub(crate) fn first_nodes<'a>(
         nodes.push_reserved(node);
     }
     Ok(nodes)
-}
-
-/// Whether there is a message from one node to another.
-pub(crate) fn has_wire(lists: &[Queue], count: u8, from: u8, to: u8) -> bool
-    requires lists { AreQueues lists.now count }
-    requires from { from < count }
-    requires to { to < count }
-    ensures value { (result ≡ true) ↔ (wires_of lists.now count from to ≢ []) }
-{
-    match first_wire(lists, count, from, to) {
-        Some(_) => true,
-        None => false,
-    }
-}
-
-/// Whether there is a message to a node.
-pub(crate) fn has_mail(lists: &[Queue], count: u8, node: u8) -> bool
-    requires lists { AreQueues lists.now count }
-    requires node { node < count }
-    ensures value { (result ≡ false)
-        ↔ ((from : ℕ) → from < count → wires_of lists.now count from node ≡ []) }
-{
-    for from in 0..count {
-        if has_wire(lists, count, from, node) {
-            return true;
-        }
-    }
-    false
 }
 
 /// What a node may do next.
@@ -201,42 +170,6 @@ pub(crate) fn exec_silent(nodes: &mut Vec<Node<'_>>, count: u8, node: u8) -> boo
     nodes[node as usize].exec_silent()
 }
 
-/// A node executes words that print nothing and send nothing, at most so many, and it is given how
-/// many.
-pub(crate) fn run_silent(nodes: &mut Vec<Node<'_>>, count: u8, node: u8, most: u64) -> u64
-    requires count { length nodes.old.items ≡ count }
-    requires allowed { CanExecute count nodes.old.items node }
-    ensures count { length nodes.new.items ≡ count }
-    ensures works { SameWorks nodes.old.items nodes.new.items }
-    ensures passed { HavePassedWords count node result nodes.old.items nodes.new.items }
-    ensures most { result ≤ most }
-{
-    nodes[node as usize].run_silent(most)
-}
-
-/// A node executes words that print nothing and send nothing and count among the visits, at most so
-/// many, and it is given how many.
-pub(crate) fn run_visiting(
-    nodes: &mut Vec<Node<'_>>,
-    count: u8,
-    node: u8,
-    most: u64,
-    visits: &mut Visits,
-) -> u64
-    requires count { length nodes.old.items ≡ count }
-    requires allowed { CanExecute count nodes.old.items node }
-    requires table { HaveVisits nodes.old.items visits.old }
-    ensures count { length nodes.new.items ≡ count }
-    ensures works { SameWorks nodes.old.items nodes.new.items }
-    ensures passed { HavePassedWords count node result nodes.old.items nodes.new.items }
-    ensures visits { HaveCounted count node result nodes.old.items
-        (visits_of visits.old) (visits_of visits.new) }
-    ensures table { StayVisits visits.old visits.new }
-    ensures most { result ≤ most }
-{
-    nodes[node as usize].run_visiting(most, visits)
-}
-
 /// A node executes a word. Where its micro-op serves it no room is needed.
 fn execute(
     nodes: &mut Vec<Node<'_>>,
@@ -262,8 +195,8 @@ fn execute(
     execute_with_room(nodes, lists, sends, count, node)
 }
 
-/// A node executes words, of which those before the last print nothing and send nothing, and it is
-/// given how many.
+/// A node executes words, and it is given how many. Those before the last print nothing and send
+/// nothing.
 pub(crate) fn run_until_send(
     nodes: &mut Vec<Node<'_>>,
     lists: &mut Vec<Queue>,
@@ -311,7 +244,7 @@ fn execute_with_room(
         lists.old.items lists.new.items) }
 {
     make_room(nodes, lists, count, node)?;
-    let turn = nodes[node as usize].exec(sends);
+    let turn = nodes[node as usize].exec_into(sends);
     send(lists, count, node, turn.stamp, sends);
     Ok(())
 }
@@ -338,7 +271,7 @@ fn take(
 {
     make_room(nodes, lists, count, node)?;
     let wire = take_first(lists, count, from, node);
-    let turn = nodes[node as usize].take(from, wire, sends);
+    let turn = nodes[node as usize].take_into(from, wire, sends);
     send(lists, count, node, turn.stamp, sends);
     Ok(())
 }

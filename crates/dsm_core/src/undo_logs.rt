@@ -2,13 +2,13 @@
 
 ghost use Rattle.std.specs.Prelude.{◌≡◌, ◌<◌, ◌≤◌, ℕ, List, IfOk, OnErr, length, slice_index_or};
 ghost use Rattle.node_machine.specs.declared.node_state.NodeState.{NodeState};
-ghost use Rattle.node_machine.specs.word_visits.TallyTables.{tallies_of};
-ghost use Rattle.run_order.specs.node_model.Node as model;
-ghost use Rattle.dsm_core.specs.CoreSteps.{SameWorks, MayExecute, IsStamped};
+ghost use Rattle.node_machine.specs.jump_map.Image.{Cell};
+ghost use Rattle.dsm_core.specs.CoreSteps.{HaveImage, SameWorks, MayExecute, IsStamped};
 ghost use Rattle.dsm_core.specs.UndoLogs.{HaveGone, TakeBack, AreSameBelow, AreSameFrom};
-ghost use Rattle.dsm_core.specs.TalliedNodes.{HaveStepped, HaveTallied, HaveTallies};
+ghost use Rattle.dsm_core.specs.CoreSteps.{HaveLearnedBelow};
 
-use node_machine::{Node, NodeUndoLog, Tallies};
+use node_machine::node_words::WordLoop;
+use node_machine::{Node, NodeUndoLog};
 use std::alloc::{AllocError, Global};
 use std::marker::Model;
 
@@ -28,7 +28,7 @@ impl Model for UndoLogs {
 }
 
 impl UndoLogs {
-    /// For so many nodes.
+    /// For `nodes` nodes.
     pub fn new(alloc: Global, nodes: u8) -> Result<UndoLogs, AllocError>
         ensures nodes { IfOk result (λ t. t ≡ nodes) }
     {
@@ -49,12 +49,13 @@ pub struct StoppedEarly {
     pub words: u64,
 }
 
-/// Each node executes so many words, by its number, where their micro-ops serve all of them.
-/// Otherwise nothing changes, and the answer tells a node that stopped early.
-pub(crate) fn run_each_undoable(
+/// Each node executes so many words by a loop, by its number, where their micro-ops serve all of
+/// them. Otherwise nothing changes, and the answer tells a node that stopped early.
+pub(crate) fn run_each_by<L: WordLoop>(
     nodes: &mut Vec<Node<'_>>,
     undo_logs: &mut Vec<NodeUndoLog>,
     count: u8,
+    by: &mut L,
     words: &[u32; 16],
 ) -> Result<(), StoppedEarly>
     requires count { length nodes.old.items ≡ count }
@@ -63,67 +64,26 @@ pub(crate) fn run_each_undoable(
     requires may { (i : ℕ) → i < count → 1 ≤ slice_index_or words.now i 0
         → MayExecute nodes.old.items i }
     requires stamp { (i : ℕ) → i < count → IsStamped nodes.old.items i }
+    requires goes_over { HaveImage nodes.old.items (λ image. L.goes_over image by.old) }
     ensures count { length nodes.new.items ≡ count }
     ensures undo_logs { length undo_logs.new.items ≡ count }
     ensures works { SameWorks nodes.old.items nodes.new.items }
     ensures passed { IfOk result (λ u. HaveGone (λ i. slice_index_or words.now i 0) count
         nodes.old.items nodes.new.items) }
+    ensures learns { IfOk result (λ u. HaveLearnedBelow L.learns (λ i. slice_index_or words.now i 0)
+        count nodes.old.items by.old by.new) }
+    ensures stays { (image : List Cell) → L.goes_over image by.old → L.goes_over image by.new }
     ensures kept { OnErr result (AreSameBelow count nodes.old.items nodes.new.items) }
 {
     for node in 0..count {
         let most = words[node as usize];
-        let made = nodes[node as usize].run_undoable(most, &mut undo_logs[node as usize]);
+        let made = nodes[node as usize].run_undoable_by(by, most, &mut undo_logs[node as usize]);
         if made < u64::from(most) {
             take_back(nodes, undo_logs, node + 1);
             return Err(StoppedEarly { node, words: made });
         }
     }
     Ok(())
-}
-
-/// Each node executes so many words, by its number, where their micro-ops serve all of them and all
-/// are tallied, and the answer gives how many of them count. Otherwise nothing changes, and the
-/// answer tells a node that stopped early.
-pub(crate) fn run_each_counting(
-    nodes: &mut Vec<Node<'_>>,
-    undo_logs: &mut Vec<NodeUndoLog>,
-    count: u8,
-    words: &[u32; 16],
-    tallies: &Tallies,
-) -> Result<u64, StoppedEarly>
-    requires count { length nodes.old.items ≡ count }
-    requires undo_logs { length undo_logs.old.items ≡ count }
-    requires few { count ≤ 16 }
-    requires may { (i : ℕ) → i < count → 1 ≤ slice_index_or words.now i 0
-        → MayExecute nodes.old.items i }
-    requires stamp { (i : ℕ) → i < count → IsStamped nodes.old.items i }
-    requires table { HaveTallies nodes.old.items tallies.now }
-    ensures count { length nodes.new.items ≡ count }
-    ensures undo_logs { length undo_logs.new.items ≡ count }
-    ensures works { SameWorks nodes.old.items nodes.new.items }
-    ensures passed { IfOk result (λ steps. HaveGone (λ i. slice_index_or words.now i 0) count
-        nodes.old.items nodes.new.items) }
-    ensures tallied { IfOk result (λ steps. HaveTallied (λ i. slice_index_or words.now i 0) count
-        nodes.old.items (tallies_of tallies.now)) }
-    ensures steps { IfOk result (HaveStepped (λ i. slice_index_or words.now i 0) count
-        nodes.old.items (tallies_of tallies.now)) }
-    ensures kept { OnErr result (AreSameBelow count nodes.old.items nodes.new.items) }
-{
-    let mut steps = 0;
-    for node in 0..count {
-        let most = words[node as usize];
-        let made = nodes[node as usize].run_counting(most, tallies, &mut undo_logs[node as usize]);
-        if made.words < u64::from(most) {
-            let stop = StoppedEarly {
-                node,
-                words: made.words,
-            };
-            take_back(nodes, undo_logs, stop.node + 1);
-            return Err(stop);
-        }
-        steps += made.steps;
-    }
-    Ok(steps)
 }
 
 /// Takes back the words of the nodes below a number.

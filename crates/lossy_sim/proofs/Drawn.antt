@@ -57,8 +57,7 @@ pub record HasDrawn (k number : ℕ) (l : LossyLink) (d last : ℕ) (after : Los
   pub draw : d ≡ (if k == 0 && l.lost == 7 && not (choice 4 (following number) == 1) then 2
       else choice 4 (following number))
   pub link : after ≡ record l {
-    lost =
-        (if k == 0 then in_a_row l.lost (choice 4 (following number)) else l.lost);
+    lost = (if k == 0 then in_a_row l.lost (choice 4 (following number)) else l.lost);
   }
   pub draws : last ≡ following number
 
@@ -121,8 +120,7 @@ drawn_done k number n0 n1 d l before mid after h g sender silent lost come kept 
       sender = sender ∙ sends;
       come = subst (λ ps. HaveCome l.receiver ps after.receiver) (sym more)
           (come_also (l.kept ++ each_by received_by l number k) (f k) l.receiver before.receiver
-          after.receiver h.come
-          (subst (λ r. HaveCome r (f k) after.receiver) from
+          after.receiver h.come (subst (λ r. HaveCome r (f k) after.receiver) from
           (subst (λ ps. HaveCome mid.receiver ps after.receiver) these come)));
       kept = kept ∙ (λ t. (ap (λ (x : LossyLink). x.kept) g.link ∙ h.kept) t ++ those t)
           ∙ sym (flat_next f' k);
@@ -138,8 +136,7 @@ drawn_lost k number n0 n1 d l before mid g is h =
     drawn_done k number n0 n1 d l before mid mid h g refl refl refl
     (subst (λ ps. HaveCome mid.receiver ps mid.receiver)
     (sym (ap (λ d. flat_map (received_by d) (packet_at mid.sender k)) is ∙ flat_none (packet_at mid.sender k)))
-    refl)
-    (sym (append-nil mid.kept) ∙ ap (λ u. mid.kept ++ u)
+    refl) (sym (append-nil mid.kept) ∙ ap (λ u. mid.kept ++ u)
     (sym (ap (λ d. flat_map (kept_by d) (packet_at mid.sender k)) is ∙ flat_kept_none (packet_at mid.sender k))))
 
 pub drawn_kept : (k number n0 n1 d : ℕ) (l before mid after : LossyLink)

@@ -152,8 +152,7 @@ reach_more work c k e r may = record {
   count = omega (arith, length-append r.events (e ∷ []), r.count);
 }
 
-most : (n budget : ℕ) → n ≤ 16 → budget ≤ 2 ^ 32
-    → (4 * n + 5) * (n * budget) + n * n < 2 ^ 56
+most : (n budget : ℕ) → n ≤ 16 → budget ≤ 2 ^ 32 → (4 * n + 5) * (n * budget) + n * n < 2 ^ 56
 most n budget few range =
     let words = mul-le n budget 16 (2 ^ 32) few range in
     let runs = mul-le (4 * n + 5) (n * budget) 69 (16 * 2 ^ 32) (omega arith) words in
@@ -188,8 +187,7 @@ some_going work s (suc k) = ⊎_elim
     (λ (e : standing_of work (s.nodes k) ≢ Over). inr (k, omega arith, e))
     (over_or (standing_of work (s.nodes k))))
     (λ (one : (i : ℕ) × (i < k) × (standing_of work (s.nodes i) ≢ Over)).
-    inr (one.0, omega (arith, one.1), one.2))
-    (some_going work s k)
+    inr (one.0, omega (arith, one.1), one.2)) (some_going work s k)
   where
     by_place : (i : ℕ) → i < suc k → ((i : ℕ) → i < k → standing_of work (s.nodes i) ≡ Over)
         → standing_of work (s.nodes k) ≡ Over → standing_of work (s.nodes i) ≡ Over
@@ -264,8 +262,7 @@ module _ (work : Work) (law : RunsGoOn) (short : AreShort) (r : RunsRewritten wo
       (few_fourth turns k m few fourth))
       (λ (still : choices work s ≡ []).
       let next = goes_on work s c k law r reached h going in
-      waits m due few (still_waits work s c m k next.0 h due still next.1) on)
-      its
+      waits m due few (still_waits work s c m k next.0 h due still next.1) on) its
     where
       waits : (m : ℕ) → IsDue n s c m k → AreFew turns k m → 1 ≤ m
           → ((x : ℕ) → IsDue n mid c x k → AreFew (suc turns) k x → End turns k (Network ∷ ts))

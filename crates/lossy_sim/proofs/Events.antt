@@ -90,8 +90,7 @@ word_made n i ns0 ns1 x y ls1 ls2 stamp posts len bi same is sent en ep es work 
     turn_made work i ns0 ns1 y ls1 ls2 (state_of work ns0 ls1 order losses) stamp posts
     (word_turn work (node_or ns0 i d)) order losses below same
     (en ∙ ap (λ (z : Turn). z.node) et) (ep ∙ ap (λ (z : Turn). z.sends) et) es
-    (λ k. refl) (λ j k bj bk. refl)
-    (subst (λ z. HaveOffered ls1 ls2 z i stamp posts) (sym e) sent)
+    (λ k. refl) (λ j k bj bk. refl) (subst (λ z. HaveOffered ls1 ls2 z i stamp posts) (sym e) sent)
 
 -- or has passed it, and sends nothing
 pub passed_made : (n i : ℕ) (ns : List NodeState) (x y : NodeState) (ls : List LossyLink) → length ns ≡ n

@@ -34,8 +34,7 @@ pub one_more : (p : Event → Bool) (g : ℕ → Event) (j : ℕ) (b : Bool) (be
     → now ++ cond b (g j ∷ []) [] ≡ before ++ filter p (map g (range_with_len 0 (j + 1)))
 one_more p g j b before now listed is =
     let some = filter p (map g (range_with_len 0 j)) in
-    ap (λ xs. xs ++ cond b (g j ∷ []) []) listed
-    ∙ append_assoc before some (cond b (g j ∷ []) [])
+    ap (λ xs. xs ++ cond b (g j ∷ []) []) listed ∙ append_assoc before some (cond b (g j ∷ []) [])
     ∙ ap (λ xs. before ++ xs) (ap (λ t. some ++ cond t (g j ∷ []) []) (sym is)
     ∙ sym (filter_of_map_range_with_len_more p g 0 j j (omega arith)))
 

@@ -115,8 +115,7 @@ come_brings (q ∷ more) r after p (mid, answer, h, rest) there is small some = 
     (subst (λ (u : Packet Wire). u.number < 2 ^ 63) (sym e) small) some))
     (λ (g : Contains more p). come_brings more mid after p rest g
     (is ∙ sym (one_next r q answer mid h)) small
-    (subst (λ n. 1 ≤ n) (sym (one_length r q answer mid h)) some))
-    (in_cons q p more there)
+    (subst (λ n. 1 ≤ n) (sym (one_length r q answer mid h)) some)) (in_cons q p more there)
 
 -- 2. How near the next message is
 
@@ -360,8 +359,7 @@ module _ (number : ℕ) (l : LossyLink) (last : ℕ) (after : LossyLink) (h : Ha
       let more : after.lost ≡ l.lost + 1 = h.lost
       ∙ ap (λ b. if b then l.lost else in_a_row l.lost (drawn_after number 0)) drawn_some
       ∙ lost_more l number few k in
-      inr (inr (inl (stays_next e, omega (arith, more, room)))))))
-      (fate_of d (draw_below l number))
+      inr (inr (inl (stays_next e, omega (arith, more, room))))))) (fate_of d (draw_below l number))
 
   told_comes : (m : ℕ) → 18 ≤ suc m + l.silent → Near after m
   told_comes m room =
@@ -385,8 +383,7 @@ module _ (number : ℕ) (l : LossyLink) (last : ℕ) (after : LossyLink) (h : Ha
       (come_keeps all_come l.receiver after.receiver h.come (sym (first_place l.receiver) ∙ k))))
       (⊎_elim
       (λ (k : IsKept l × (1 ≤ suc m)). inl (arrives k.0.0
-      (in_left l.kept (each_by received_by l number (packets_drawn l)) k.0.0 k.0.1) k.0.2))
-      (⊎_elim
+      (in_left l.kept (each_by received_by l number (packets_drawn l)) k.0.0 k.0.1) k.0.2)) (⊎_elim
       (λ (k : (l.sender.acknowledged ≡ l.receiver.next) × (9 ≤ suc m + l.lost)).
       first_comes m k.0 k.1)
       (λ (k : 18 ≤ suc m + l.silent). told_comes m k)))

@@ -30,8 +30,7 @@ offered_if false l before wires c = c
 made_stands : (n i : ℕ) (t : turns.Turn) (s last : State) (c : Core) → Stands n s c
     → HasMade n i t s last → Stands n last (with_turn c i t)
 made_stands n i t s last c h m = record {
-  nodes = λ k lt. m.nodes k lt
-      ∙ ap (λ (x : Node). if k == i then t.node else x) (h.nodes k lt);
+  nodes = λ k lt. m.nodes k lt ∙ ap (λ (x : Node). if k == i then t.node else x) (h.nodes k lt);
   lists = λ j k jn kn. subst
       (λ l. Carries l
       (if j == i then c.list j k ++ wires_to t.node.stamp k t.sends else c.list j k))
@@ -156,8 +155,7 @@ opening_stands work order loss = record {
 pub turns_stand : (work : Work) (number : ℕ) (s : State) (ts : List Turn) (last : State) (c : Core)
     → Stands work.layout.nodes s c → FollowsLoss work number s ts last
     → IsCoreRun work c (ordinary ts) × Stands work.layout.nodes last (after work c (ordinary ts))
-turns_stand work number s [] last c h e =
-    (tt, subst (λ x. Stands work.layout.nodes x c) (sym e) h)
+turns_stand work number s [] last c h e = (tt, subst (λ x. Stands work.layout.nodes x c) (sym e) h)
 turns_stand work number s (Ordinary e ∷ ts) last c h (going, mid, (not_its, picked, event, o, l), more) =
     let may = picked_may work s c (following s.order) e h picked in
     let rest = turns_stand work (suc number) mid ts last (event_step work c e)

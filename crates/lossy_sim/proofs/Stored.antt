@@ -1,16 +1,16 @@
 -- Links between n nodes, as they are stored.
-use Rattle.std.proofs.Common.{◌≡◌, ℕ, ◌+◌, ◌*◌, ◌<◌, ◌≤◌, Bool, true, false, cond, eqb, ◌&&◌, List, [], ◌∷◌, length, get_or, set, refl, sym, ap, ◌∙◌, subst, inl, inr, arith, append_assoc, append-nil, length-append}
-use Rattle.std.specs.Prelude.{◌==◌, if◌then◌else◌, remove}
-use Rattle.std.proofs.lemmas.List.{get_or-set_same, get_or-set_other, get_or_default, length-set}
+use Rattle.std.proofs.Common.{◌≡◌, ◌≢◌, ℕ, ◌+◌, ◌*◌, ◌<◌, ◌≤◌, Bool, true, false, cond, eqb, ◌&&◌, List, [], ◌∷◌, ◌++◌, length, get_or, set, refl, sym, ap, ◌∙◌, subst, inl, inr, arith, append_assoc, append-nil, length-append}
+use Rattle.std.specs.Prelude.{if◌then◌else◌}
+use Rattle.std.proofs.lemmas.List.{get_or-set_same, get_or-set_other, get_or_default}
 use Rattle.std.proofs.lemmas.Bool.Decides.{eqb_tells, leb_tells, nat_tests}
 use Rattle.dsm_messages.specs.declared.messages.Post.{Post}
 use Rattle.dsm_messages.specs.declared.messages.Wire.{Wire}
 use Rattle.lossy_link.specs.Sender.{number_offered}
 use Rattle.lossy_link.specs.Receiver.{Receiving}
 use Rattle.node_model.specs.Core.{wires_to}
-use Rattle.message_queues.proofs.Squares.{below_row, place_below, first_is}
+use Rattle.message_queues.proofs.Squares.{below_row, place_below}
 use Rattle.lossy_sim.specs.Links.{LossyLink, new_link, with_offered}
-use Rattle.lossy_sim.specs.Stored.{link_at, AreLinks, HaveOffered, HaveSentFewer}
+use Rattle.lossy_sim.specs.Stored.{link_at, HaveOffered, HaveOfferedFew, HaveSentFewer}
 
 same_row : (n x y j i : ℕ) → y < n → i < n → x * n + y ≡ j * n + i → x ≡ j
 same_row n x y j i in_row at_row same = elim (leb_tells j x) [
@@ -51,144 +51,71 @@ pub link_read : (ls : List LossyLink) (n j i : ℕ) (old : LossyLink) → length
 link_read ls n j i old len row col is = is
     ∙ get_or_default ls (j * n + i) old new_link (omega (arith, place_below n j i row col))
 
-abbrev pub wire_with : ℕ → Post → Wire
-wire_with stamp p = record { stamp = stamp; message = p.message }
+-- these were offered, one after another
+pub offered_both : (l : LossyLink) (ws vs : List Wire)
+    → with_offered (with_offered l ws) vs ≡ with_offered l (ws ++ vs)
+offered_both l ws vs = ap (λ u. record l { sender = record l.sender { items = u } })
+    (append_assoc l.sender.items ws vs)
 
--- what is offered once all of these are, in an event with this stamp
-abbrev pub sent_at : List LossyLink → (n j stamp : ℕ) → List Post → (x y : ℕ) → LossyLink
-sent_at ls n j stamp posts x y =
-    if x == j then with_offered (link_at ls n x y) (wires_to stamp y posts) else link_at ls n x y
+pub number_more : (l m : LossyLink) (w : Wire) → m ≡ with_offered l (w ∷ [])
+    → number_offered m.sender ≡ number_offered l.sender + 1
+number_more l m w is = ap (λ (z : LossyLink). number_offered z.sender) is
+    ∙ omega (arith, length-append l.sender.items (w ∷ []))
 
-offered_twice : (l : LossyLink) (w : Wire) (ws : List Wire)
-    → with_offered (with_offered l (w ∷ [])) ws ≡ with_offered l (w ∷ ws)
-offered_twice l w ws = ap (λ u. record l { sender = record l.sender { items = u } })
-    (append_assoc l.sender.items (w ∷ []) ws)
+-- a link by its place, whatever stands for one that isn't there
+pub link_place : (ls : List LossyLink) (n j i : ℕ) (d : LossyLink) → length ls ≡ n * n → j < n → i < n
+    → get_or ls (j * n + i) d ≡ link_at ls n j i
+link_place ls n j i d len row col =
+    get_or_default ls (j * n + i) d new_link (omega (arith, place_below n j i row col))
 
-offered_none : (l : LossyLink) → with_offered l [] ≡ l
-offered_none l = ap (λ u. record l { sender = record l.sender { items = u } }) (append-nil l.sender.items)
+-- a node has offered on each link of its row, and on no other
+pub offered_row : (ls ms : List LossyLink) (n j stamp : ℕ) (posts : List Post)
+    → ((to : ℕ) (q : LossyLink) → to < n → get_or ms (j * n + to) q
+    ≡ with_offered (get_or ls (j * n + to) q) (wires_to stamp to posts))
+    → ((k : ℕ) (q : LossyLink) → ((to : ℕ) → to < n → k ≢ j * n + to)
+    → get_or ms k q ≡ get_or ls k q)
+    → HaveOffered ls ms n j stamp posts
+offered_row ls ms n j stamp posts sent others x y bx by = elim (eqb_tells x j) [
+  | inl g ↦ rw g.0 (ap (λ k. get_or ms (k * n + y) new_link) g.1 ∙ sent y new_link by
+      ∙ ap (λ k. with_offered (get_or ls (k * n + y) new_link) (wires_to stamp y posts)) (sym g.1))
+  | inr g ↦ rw g.0
+      (others (x * n + y) new_link (λ to low e. g.1 (same_row n x y j to by low e)))
+]
 
--- one message more was offered
-pub offered_more : (ls : List LossyLink) (n j : ℕ) (q : LossyLink) (stamp : ℕ) (p : Post)
-    (rest : List Post) → length ls ≡ n * n → j < n → p.to < n
-    → q ≡ with_offered (link_at ls n j p.to) (wire_with stamp p ∷ []) → (x y : ℕ) → x < n → y < n
-    → sent_at (set ls (j * n + p.to) q) n j stamp rest x y ≡ sent_at ls n j stamp (p ∷ rest) x y
-offered_more ls n j q stamp p rest len row col is x y bx by =
-    let e = link_set ls n j p.to q x y len row col bx by in
-    let w = wire_with stamp p in
-    elim (eqb_tells x j) [
-      | inl g ↦ elim (eqb_tells y p.to) [
-        | inl h ↦ (let h2 : eqb p.to y ≡ true = (let z = h.1 in grind (arith, nat_tests)) in
-            let f : link_at (set ls (j * n + p.to) q) n x y ≡ with_offered (link_at ls n x y) (w ∷ []) = e
-            ∙ (rw (g.0, h.0) (is ∙ ap (λ k. with_offered (link_at ls n k p.to) (w ∷ [])) (sym g.1)
-            ∙ ap (λ k. with_offered (link_at ls n x k) (w ∷ [])) (sym h.1))) in
-            rw g.0 (rw h2 (ap (λ z. with_offered z (wires_to stamp y rest)) f
-            ∙ offered_twice (link_at ls n x y) w (wires_to stamp y rest))))
-        | inr h ↦ (let h2 : eqb p.to y ≡ false = (let z = h.1 in grind (arith, nat_tests)) in
-            let f : link_at (set ls (j * n + p.to) q) n x y ≡ link_at ls n x y = e
-            ∙ (rw (g.0, h.0) refl) in
-            rw g.0 (rw h2 (ap (λ z. with_offered z (wires_to stamp y rest)) f)))
-      ]
-      | inr g ↦ (let f : link_at (set ls (j * n + p.to) q) n x y ≡ link_at ls n x y = e
-          ∙ (rw g.0 refl) in rw g.0 f)
-    ]
+few_wires : (stamp k : ℕ) (posts : List Post) → length (wires_to stamp k posts) ≤ length posts
+few_wires stamp k [] = omega arith
+few_wires stamp k (p ∷ posts) = let few = few_wires stamp k posts in elim (eqb_tells p.to k) [
+  | inl t ↦ rw t.0 (omega (arith, few))
+  | inr t ↦ rw t.0 (omega (arith, few))
+]
 
--- or went to no node
-pub offered_away : (ls : List LossyLink) (n j stamp : ℕ) (p : Post) (rest : List Post) → n ≤ p.to
-    → (x y : ℕ) → x < n → y < n → sent_at ls n j stamp rest x y ≡ sent_at ls n j stamp (p ∷ rest) x y
-offered_away ls n j stamp p rest far x y bx by =
-    let t : eqb p.to y ≡ false = grind (arith, nat_tests) in
-    elim (eqb_tells x j) [ inl g ↦ rw g.0 (rw t refl) | inr g ↦ rw g.0 refl ]
-
--- fewer than so many are offered once so many more are
-abbrev pub AreFew : (most left : ℕ) → List LossyLink → ℕ → Type 0
-AreFew most left ls n = (x y : ℕ) → x < n → y < n
-    → number_offered (link_at ls n x y).sender + left < most
-
-pub few_more : (ls : List LossyLink) (n j : ℕ) (q : LossyLink) (to most left more : ℕ) (w : Wire)
-    → length ls ≡ n * n → j < n → to < n → q ≡ with_offered (link_at ls n j to) (w ∷ [])
-    → more ≡ left + 1 → AreFew most more ls n → AreFew most left (set ls (j * n + to) q) n
-few_more ls n j q to most left more w len row col is one few x y bx by =
-    let l = link_at ls n j to in
-    let sent : number_offered q.sender ≡ number_offered l.sender + 1 =
-    ap (λ (z : LossyLink). number_offered z.sender) is ∙ omega (arith, length-append l.sender.items (w ∷ [])) in
-    let here = few j to row col in
-    let there = few x y bx by in
-    subst (λ (z : LossyLink). number_offered z.sender + left < most)
-    (sym (link_set ls n j to q x y len row col bx by))
-    (by_test (eqb x j && eqb y to) (omega (arith, sent, here, one)) (omega (arith, there, one)))
+-- and so few
+pub offered_few : (ls ms : List LossyLink) (n j stamp : ℕ) (posts : List Post) → length posts ≤ 18
+    → HaveOffered ls ms n j stamp posts → HaveOfferedFew 18 ls ms n
+offered_few ls ms n j stamp posts short offered most few x y bx by =
+    subst (λ (z : LossyLink). number_offered z.sender < most + 18) (sym (offered x y bx by))
+    (by_test (eqb x j))
   where
-    by_test : (b : Bool) → number_offered q.sender + left < most
-        → number_offered (link_at ls n x y).sender + left < most
-        → number_offered (cond b q (link_at ls n x y)).sender + left < most
-    by_test true h g = h
-    by_test false h g = g
+    l : LossyLink
+    l = link_at ls n x y
 
--- all are offered
-pub offered_all : (ls new : List LossyLink) (n j stamp : ℕ) (posts : List Post)
-    → ((x y : ℕ) → x < n → y < n → sent_at new n j stamp [] x y ≡ sent_at ls n j stamp posts x y)
-    → HaveOffered ls new n j stamp posts
-offered_all ls new n j stamp posts h x y bx by = sym (by_test (eqb x j)) ∙ h x y bx by
-  where
-    by_test : (b : Bool) → (if b then with_offered (link_at new n x y) [] else link_at new n x y)
-        ≡ link_at new n x y
-    by_test true = offered_none (link_at new n x y)
-    by_test false = refl
-
--- of what node j sends this is left, and the rest is offered
-pub record HaveOfferedTo (old now : List LossyLink) (n j stamp : ℕ) (posts left : List Post)
-    : Type 0 where
-  pub links : AreLinks now n
-  pub few : (most : ℕ) → HaveSentFewer most old n → AreFew (most + 18) (length left) now n
-  pub sent : (x y : ℕ) → x < n → y < n
-      → sent_at now n j stamp left x y ≡ sent_at old n j stamp posts x y
-
--- the first that is left is offered
-pub offered_first : (old now : List LossyLink) (n j stamp : ℕ) (posts left rest : List Post)
-    (p : Post) (l q : LossyLink) → j < n → p.to < n → p ≡ get_or left 0 p → rest ≡ remove left 0
-    → length rest + 1 ≡ length left → l ≡ get_or now (j * n + p.to) l
-    → q ≡ with_offered l (wire_with stamp p ∷ []) → HaveOfferedTo old now n j stamp posts left
-    → HaveOfferedTo old (set now (j * n + p.to) q) n j stamp posts rest
-offered_first old now n j stamp posts left rest p l q row col first others one is offered h =
-    let all : left ≡ p ∷ rest = first_is left rest p first others (omega (arith, one)) in
-    let more : q ≡ with_offered (link_at now n j p.to) (wire_with stamp p ∷ []) =
-    offered ∙ ap (λ z. with_offered z (wire_with stamp p ∷ []))
-    (link_read now n j p.to l h.links.len row col is) in
-    record {
-      links = record {
-        few = h.links.few;
-        len = length-set now (j * n + p.to) q ∙ h.links.len;
-      };
-      few = λ most sent. few_more now n j q p.to (most + 18) (length rest) (length left)
-          (wire_with stamp p) h.links.len row col more (sym one) (h.few most sent);
-      sent = λ x y bx by. offered_more now n j q stamp p rest h.links.len row col more x y bx by
-          ∙ ap (λ z. sent_at now n j stamp z x y) (sym all) ∙ h.sent x y bx by;
-    }
-
--- or it went to no node
-pub offered_no_node : (old now : List LossyLink) (n j stamp : ℕ) (posts left rest : List Post)
-    (p : Post) → n ≤ p.to → p ≡ get_or left 0 p → rest ≡ remove left 0
-    → length rest + 1 ≡ length left → HaveOfferedTo old now n j stamp posts left
-    → HaveOfferedTo old now n j stamp posts rest
-offered_no_node old now n j stamp posts left rest p far first others one h =
-    let all : left ≡ p ∷ rest = first_is left rest p first others (omega (arith, one)) in
-    record {
-      links = h.links;
-      few = λ most sent x y bx by. let few = h.few most sent x y bx by in omega (arith, few, one);
-      sent = λ x y bx by. offered_away now n j stamp p rest far x y bx by
-          ∙ ap (λ z. sent_at now n j stamp z x y) (sym all) ∙ h.sent x y bx by;
-    }
-
--- and in the end nothing is left
-pub offered_last : (old now : List LossyLink) (n j stamp : ℕ) (posts left : List Post)
-    → left ≡ [] → HaveOfferedTo old now n j stamp posts left
-    → HaveOffered old now n j stamp posts
-offered_last old now n j stamp posts left none h = offered_all old now n j stamp posts
-    (subst (λ z. (x y : ℕ) → x < n → y < n
-    → sent_at now n j stamp z x y ≡ sent_at old n j stamp posts x y) none h.sent)
+    by_test : (b : Bool) → number_offered
+        (if b then with_offered l (wires_to stamp y posts) else l).sender < most + 18
+    by_test true = let less = few x y bx by in
+        let wires = few_wires stamp y posts in
+        omega (arith, less, wires, short, length-append l.sender.items (wires_to stamp y posts))
+    by_test false = let less = few x y bx by in omega (arith, less)
 
 -- nothing was offered
 pub offered_nothing : (ls : List LossyLink) (n j stamp : ℕ) → HaveOffered ls ls n j stamp []
-offered_nothing ls n j stamp = offered_all ls ls n j stamp [] (λ x y bx by. refl)
+offered_nothing ls n j stamp x y bx by = sym (by_test (eqb x j))
+  where
+    by_test : (b : Bool) → (if b then with_offered (link_at ls n x y) [] else link_at ls n x y)
+        ≡ link_at ls n x y
+    by_test true = ap (λ u. record (link_at ls n x y) {
+      sender = record (link_at ls n x y).sender { items = u };
+    }) (append-nil (link_at ls n x y).sender.items)
+    by_test false = refl
 
 -- a message was delivered from j to i
 pub few_delivered : (ls : List LossyLink) (n j i : ℕ) (q : LossyLink) (r : Receiving Wire) (most : ℕ)

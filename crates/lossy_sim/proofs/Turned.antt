@@ -58,24 +58,16 @@ turned_none ls losses = record {
 }
 
 at_other : (f : ℕ → ℕ) (i x k : ℕ) → k ≢ i → changed f i x k ≡ f k
-at_other f i x k other = elim (eqb_tells k i) [
-  | inl t ↦ absurd (other t.1)
-  | inr t ↦ rw t.0 refl
-]
+at_other f i x k other = elim (eqb_tells k i) [ inl t ↦ absurd (other t.1) | inr t ↦ rw t.0 refl ]
 
 at_same : (f : ℕ → ℕ) (i x k : ℕ) → k ≡ i → changed f i x k ≡ x
-at_same f i x k same = elim (eqb_tells k i) [
-  | inl t ↦ rw t.0 refl
-  | inr t ↦ absurd (t.1 same)
-]
+at_same f i x k same = elim (eqb_tells k i) [ inl t ↦ rw t.0 refl | inr t ↦ absurd (t.1 same) ]
 
 turn_is : (a b c d : ℕ) (l m q r : LossyLink) → b ≡ a → m ≡ l → d ≡ c → r ≡ q
     → HasNetworkTurn a l c q → HasNetworkTurn b m d r
 turn_is a b c d l m q r ea el ec eq t =
-    subst (λ z. HasNetworkTurn z m d r) (sym ea)
-    (subst (λ z. HasNetworkTurn a z d r) (sym el)
-    (subst (λ z. HasNetworkTurn a l z r) (sym ec)
-    (subst (λ z. HasNetworkTurn a l c z) (sym eq) t)))
+    subst (λ z. HasNetworkTurn z m d r) (sym ea) (subst (λ z. HasNetworkTurn a z d r) (sym el)
+    (subst (λ z. HasNetworkTurn a l z r) (sym ec) (subst (λ z. HasNetworkTurn a l c z) (sym eq) t)))
 
 pub turned_more : (k : ℕ) (old new : List LossyLink) (losses last next : ℕ) (x q : LossyLink)
     → k < length new → x ≡ get_or new k x → HasNetworkTurn last x next q

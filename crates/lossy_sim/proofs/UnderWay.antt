@@ -63,8 +63,7 @@ acknowledged_window s n t h = ⊎_elim
     (λ (up : s.acknowledged < n). ⊎_elim
     (λ (there : n ≤ number_offered s). ap (λ (u : Sending Wire). u.window) (h.counts up there))
     (λ (far : number_offered s < n). ap (λ (u : Sending Wire). u.window) (h.ignores (inr far)))
-    (le_or_above (number_offered s) n))
-    (le_or_above s.acknowledged n)
+    (le_or_above (number_offered s) n)) (le_or_above s.acknowledged n)
 
 abbrev pub window_of : Link Wire → ℕ
 window_of l = l.sender.window
@@ -161,12 +160,10 @@ make_next k s r ps ns wires within (qs, c, a) (Some item) e =
         kept = λ q h. in_rest p q qs (a.kept q h);
         made = λ m lt. ⊎_elim
             (λ (h : k ≤ m). let same : k ≡ m = omega arith in
-            subst (λ i. All In (packet_at s i)) same
-            (All-same In (packet_at s k) (p ∷ []) one
+            subst (λ i. All In (packet_at s i)) same (All-same In (packet_at s k) (p ∷ []) one
             (All-cons In p [] (in_front p qs) (All-nil In))))
             (λ (h : m < k). All-weaker (λ q. Contains qs q) In (λ q i. in_rest p q qs i)
-            (packet_at s m) (a.made m h))
-            (le_or_above m k);
+            (packet_at s m) (a.made m h)) (le_or_above m k);
       },
     )
 

@@ -6,7 +6,7 @@ use Rattle.lossy_link.specs.declared.packet.Packet.{Packet}
 use Rattle.dsm_messages.specs.declared.messages.Wire.{Wire}
 use Rattle.lossy_sim.specs.Links.{LossyLink, HaveCome, packet_at, drawn_after, received_by, kept_by, each_by, in_a_row}
 
--- what was kept back came, and then the packets behind fewer than k others had their draws
+-- what was kept back came, and then the packets after fewer than k others had their draws
 pub record HasBrought (number k : ℕ) (l : LossyLink) (last : ℕ) (after : LossyLink) : Type 0 where
   pub sender : after.sender ≡ l.sender
   pub come : HaveCome l.receiver (l.kept ++ each_by received_by l number k) after.receiver
@@ -15,7 +15,7 @@ pub record HasBrought (number k : ℕ) (l : LossyLink) (last : ℕ) (after : Los
   pub silent : after.silent ≡ l.silent
   pub draws : last ≡ after_turns k number
 
--- the packet behind k others was received
+-- the packet after k others was received
 pub record HasReceived (k : ℕ) (l after : LossyLink) : Type 0 where
   pub packet : Packet Wire
   pub is : packet_at l.sender k ≡ packet ∷ []

@@ -33,7 +33,7 @@ new_link = record {
 abbrev pub with_offered : LossyLink → List Wire → LossyLink
 with_offered l wires = record l { sender = record l.sender { items = l.sender.items ++ wires } }
 
--- the packet of the item behind k others, where there is one
+-- the packet of the item after k others, where there is one
 abbrev pub packet_at : Sending Wire → ℕ → List (Packet Wire)
 packet_at s k = map (λ item. record { number = s.acknowledged + k; item = item })
     (option_to_list (slice_get s.items k))
@@ -42,11 +42,11 @@ packet_at s k = map (λ item. record { number = s.acknowledged + k; item = item 
 abbrev pub packets_drawn : LossyLink → ℕ
 packets_drawn l = min 8 (length l.sender.items)
 
--- the draw behind k others, from a number of the losses on
+-- the draw after k others, from a number of the losses on
 abbrev pub drawn_after : (number k : ℕ) → ℕ
 drawn_after number k = choice 4 (after_turns (suc k) number)
 
--- What the draw for the packet behind k others counts as. Where the seven last draws for packet 0
+-- What the draw for the packet after k others counts as. Where the seven last draws for packet 0
 -- were 0, it is received whatever the number: twice at 1, and else once, and at 3 too it isn't kept
 -- back.
 abbrev pub draw_for : LossyLink → (number k : ℕ) → ℕ
@@ -60,7 +60,7 @@ received_by draw p = if draw == 1 then p ∷ p ∷ [] else if draw == 2 then p �
 abbrev pub kept_by : (draw : ℕ) → Packet Wire → List (Packet Wire)
 kept_by draw p = if draw == 3 then p ∷ [] else []
 
--- what becomes of the packets behind fewer than k others, each by its draw
+-- what becomes of the packets after fewer than k others, each by its draw
 abbrev pub each_by : ((draw : ℕ) → Packet Wire → List (Packet Wire)) → LossyLink → (number k : ℕ)
     → List (Packet Wire)
 each_by fate l number k = flat_map

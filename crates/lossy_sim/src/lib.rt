@@ -1,5 +1,7 @@
 #![tactic(auto)]
 //! Runs of nodes on one thread, over links that lose, repeat and keep back packets.
+//!
+//! It hands on what it runs nodes by: [`dsm_core`] and [`shared_sim`].
 
 ghost use Rattle.std.specs.Prelude.{◌+◌, ◌*◌, ◌≤◌, ℕ, List, length};
 ghost use Rattle.node_model.specs.Node.{Work};

@@ -2,6 +2,7 @@
 
 ghost use Rattle.std.specs.Prelude.{◌≡◌, ◌+◌, ◌^◌, ◌<◌, ◌==◌, ◌&&◌, not, ℕ, [], ◌∷◌, ◌++◌, true};
 ghost use Rattle.std.specs.Prelude.{if◌then◌else◌, IfOk, OnOk};
+ghost use Rattle.std.proofs.Common.{ap, append-nil, lt_of_lt_of_le, sym};
 ghost use Rattle.random_order.specs.Orders.{following, choice};
 ghost use Rattle.lossy_link.specs.Sender.{number_offered};
 ghost use Rattle.lossy_link.specs.Receiver.{Receiving, Delivers};
@@ -12,6 +13,7 @@ ghost use Rattle.lossy_sim.specs.Draws.{HasBrought, HasReceived};
 
 use dsm_messages::Wire;
 use lossy_link::{Packet, Receiver, Sender};
+use message_queues::Channel;
 use random_order::Order;
 use std::alloc::{AllocError, Global};
 use std::marker::Model;
@@ -19,10 +21,10 @@ use std::marker::Model;
 /// How many items the window of a link has.
 const WINDOW: u8 = 8;
 
-/// So many draws in a row may lose packet 0, or the acknowledgement.
+/// How many draws in a row may lose packet 0, or the acknowledgement.
 const MOST_LOST: u8 = 7;
 
-/// A draw is one of so many.
+/// A draw is one of this number.
 const DRAWS: u32 = 4;
 
 /// A link from one node to another.
@@ -55,6 +57,26 @@ impl Model for Link {
     ghost invariant = { λ l. (l.sender.window ≡ 8) × (l.lost ≤ 7) × (l.silent ≤ 7) };
 }
 
+/// A link over a network that loses, repeats and keeps back packets.
+impl Channel for Link {
+    ghost has_sent = { λ l wires m. m ≡ with_offered l wires };
+
+    ghost has_room = { λ l k. (j : ℕ) → j < k → number_offered l.sender + j < 2 ^ 63 };
+
+    ghost may_fail = { true };
+
+    fn send(&mut self, wire: Wire) -> Result<(), AllocError> {
+        self.offer(wire)?;
+        Ok(())
+    }
+
+    ghost none_sent = { λ l. ap
+        (λ items. record l { sender = record l.sender { items = items } })
+        (sym (append-nil l.sender.items)) };
+
+    ghost fewer_fit = { λ l j k less room i low. room i (lt_of_lt_of_le low less) };
+}
+
 impl Link {
     /// A link on which nothing is under way.
     pub(crate) fn new(alloc: Global) -> Result<Link, AllocError>
@@ -69,8 +91,8 @@ impl Link {
         })
     }
 
-    /// Puts a message behind those that are under way.
-    pub(crate) fn offer(&mut self, wire: Wire) -> Result<(), AllocError>
+    /// Puts a message after those that are under way.
+    fn offer(&mut self, wire: Wire) -> Result<(), AllocError>
         requires few { number_offered self.old.sender < 2 ^ 63 }
         ensures offered { OnOk result (self.new ≡ with_offered self.old (wire ∷ [])) }
     {
@@ -119,7 +141,7 @@ impl Link {
         }
     }
 
-    /// Draws for the packet behind k others: 0 loses it, 1 brings it twice, 2 brings it, 3 keeps it
+    /// Draws for the packet after k others: 0 loses it, 1 brings it twice, 2 brings it, 3 keeps it
     /// back.
     fn bring(&mut self, k: u8, losses: &mut Order) -> Result<(), AllocError>
         requires there { k < packets_drawn self.old }
@@ -138,7 +160,7 @@ impl Link {
         }
     }
 
-    /// The next draw, for the packet behind k others. Packet 0 is brought whatever is drawn where
+    /// The next draw, for the packet after k others. Packet 0 is brought whatever is drawn where
     /// the last seven draws for it were 0.
     fn draw(&mut self, k: u8, losses: &mut Order) -> u32
         ensures draw { let drawn = choice 4 (following losses.old) in result
@@ -159,7 +181,7 @@ impl Link {
         if forced { 2 } else { drawn }
     }
 
-    /// The packet behind k others is received.
+    /// The packet after k others is received.
     fn receive(&mut self, k: u8) -> Result<(), AllocError>
         requires there { k < packets_drawn self.old }
         ensures received { OnOk result (HasReceived k self.old self.new) }
@@ -169,7 +191,7 @@ impl Link {
         Ok(())
     }
 
-    /// The packet behind k others is kept back.
+    /// The packet after k others is kept back.
     fn keep(&mut self, k: u8) -> Result<(), AllocError>
         requires there { k < packets_drawn self.old }
         ensures kept { OnOk result (self.new
@@ -180,7 +202,7 @@ impl Link {
         Ok(())
     }
 
-    /// The packet behind k others.
+    /// The packet after k others.
     fn packet(&self, k: u8) -> Result<Packet<Wire>, AllocError>
         requires there { k < packets_drawn self.now }
         ensures packet { IfOk result (λ p. packet_at self.now.sender k ≡ p ∷ []) }
@@ -206,7 +228,7 @@ impl Link {
     }
 }
 
-/// Whether an acknowledgement is given, where so many draws in a row were 0 before this one.
+/// Whether an acknowledgement is given, where `silent` draws in a row were 0 before this one.
 fn is_given(silent: u8, drawn: u32) -> bool
     ensures { result ≡ is_given silent drawn }
 {

@@ -11,11 +11,12 @@ ghost use Rattle.lossy_sim.specs.Stored.{HaveOfferedFew, HaveSentFewer, HaveTurn
 use crate::links::Link;
 use dsm_core::Event;
 use dsm_core::node_machine::Node;
-use dsm_messages::{Sends, Wire};
+use dsm_messages::Sends;
+use message_queues::send_all;
 use random_order::Order;
 use std::alloc::{AllocError, Global};
 
-/// Links between so many nodes: the link from node j to node i stands at place j × n + i.
+/// Links between `count` nodes: the link from node j to node i stands at place j × n + i.
 pub(crate) fn new_links(alloc: Global, count: u8) -> Result<Vec<Link>, AllocError>
     requires few { count ≤ 16 }
     ensures links { IfOk result (λ ls. AreLinks ls.items count) }
@@ -77,7 +78,7 @@ fn execute(
         return Ok(());
     }
     nodes[node as usize].room()?;
-    let turn = nodes[node as usize].exec(sends);
+    let turn = nodes[node as usize].exec_into(sends);
     offer(links, count, node, turn.stamp, sends)
 }
 
@@ -103,7 +104,7 @@ fn take(
 {
     nodes[node as usize].room()?;
     let wire = links[from as usize * count as usize + node as usize].deliver();
-    let turn = nodes[node as usize].take(from, wire, sends);
+    let turn = nodes[node as usize].take_into(from, wire, sends);
     offer(links, count, node, turn.stamp, sends)
 }
 
@@ -123,17 +124,10 @@ fn offer(
         sends.old.items) }
     ensures few { OnOk result (HaveOfferedFew 18 links.old.items links.new.items count) }
 {
-    // brings: no more is sent than there is room for
+    // brings: how much is sent at most
     let _ = sends.len();
-    while !sends.is_empty() {
-        let post = sends.remove(0);
-        if post.to < count {
-            links[from as usize * count as usize + post.to as usize].offer(Wire {
-                stamp,
-                message: post.message,
-            })?;
-        }
-    }
+    let first = from as usize * count as usize;
+    send_all(links, first, count as usize, stamp, sends)?;
     Ok(())
 }
 

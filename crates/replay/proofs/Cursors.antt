@@ -12,7 +12,7 @@ use Rattle.replay.specs.declared.cursor.Cursor.{Cursor}
 use Rattle.replay.specs.declared.cursor.Cursors.{Cursors}
 use Rattle.replay.specs.declared.cursor.First.{First}
 use Rattle.replay.specs.Told.{Told, told_by, told_in, entries_of, stamp_told, maker_told}
-use Rattle.replay.specs.Way.{without, left_of, start_of, cursor_at, entries_at, left_at, last_at, IsEntryOf, AreLawful, IsNext, ComesBefore, ComesFirst, IsFirst, IsFirstBelow, HasFollowed, count_left, all_left}
+use Rattle.replay.specs.Way.{without, left_of, cursor_at, entries_at, left_at, last_at, IsEntryOf, AreLawful, IsNext, ComesBefore, ComesFirst, IsFirst, IsFirstBelow, HasFollowed, count_left, all_left}
 use Rattle.replay.proofs.Sorting.{AreOf}
 use Rattle.replay.proofs.Journals.{take_of, told_word, told_take, left_word, left_take, words_first, without_none, behind_takes, rising_in}
 use Rattle.replay.proofs.Way.{IsAhead, AreNow}
@@ -175,8 +175,7 @@ left_by i c r = told_in i (c.takes + 1) c.last (left_of c (entries_of r i))
 
 left_followed : (w v : Cursors) (k : ℕ) (c : Cursor) → v.rec.now ≡ w.rec.now
     → cursor_at v k ≡ c → left_at v k ≡ left_by k c w.rec.now
-left_followed w v k c rec own =
-    ap (λ z. left_by k z v.rec.now) own ∙ ap (λ z. left_by k c z) rec
+left_followed w v k c rec own = ap (λ z. left_by k z v.rec.now) own ∙ ap (λ z. left_by k c z) rec
 
 pub left_same : (w v : Cursors) (k : ℕ) → v.rec.now ≡ w.rec.now → cursor_at v k ≡ cursor_at w k
     → left_at v k ≡ left_at w k
@@ -240,8 +239,7 @@ lawful_word n last words l e es is lt h =
     (record { from = g.0.from; stamp = omega arith; low = g.0.low; few_words = omega arith }, g.1)
 
 lawful_take : (n last words : ℕ) (l : List JournalEntry) (e : JournalEntry) (es : List JournalEntry)
-    → l ≡ e ∷ es → AreTakesBehind n last (without words l)
-    → AreTakesBehind n e.stamp (without 0 es)
+    → l ≡ e ∷ es → AreTakesBehind n last (without words l) → AreTakesBehind n e.stamp (without 0 es)
 lawful_take n last words l e es is h =
     let g : AreTakesBehind n last (without words (e ∷ es)) =
     subst (λ l. AreTakesBehind n last (without words l)) is h in
@@ -273,8 +271,7 @@ lawful_entry w i e bi lawful is = let c = cursor_at w i in
 -- 5. There are fewer left
 
 length_by : (i entry last k : ℕ) (e : JournalEntry) (tail : List Told)
-    → length (told_by entry (words_from i last k ++ take_of i e ∷ []) ++ tail)
-    ≡ k + 1 + length tail
+    → length (told_by entry (words_from i last k ++ take_of i e ∷ []) ++ tail) ≡ k + 1 + length tail
 length_by i entry last zero e tail = omega arith
 length_by i entry last (suc k) e tail =
     ap (λ l. length (told_by entry (l ++ take_of i e ∷ []) ++ tail)) (words_first i last k)
@@ -304,8 +301,7 @@ count_same w v (suc m) same =
     ap₂ (λ a b. a + b) (count_same w v m (λ k lt. same k (omega arith)))
     (ap (λ l. length l) (same m (omega arith)))
 
-pub count_fewer : (w v : Cursors) (i m : ℕ) → i < m
-    → ((k : ℕ) → k ≢ i → left_at v k ≡ left_at w k)
+pub count_fewer : (w v : Cursors) (i m : ℕ) → i < m → ((k : ℕ) → k ≢ i → left_at v k ≡ left_at w k)
     → length (left_at v i) < length (left_at w i) → count_left v m < count_left w m
 count_fewer w v i zero lt same less = absurd (omega arith)
 count_fewer w v i (suc m) lt same less = ⊎_elim
@@ -316,8 +312,7 @@ count_fewer w v i (suc m) lt same less = ⊎_elim
     (λ (e : m ≢ i).
     let rest = count_fewer w v i m (omega arith) same less in
     let here : length (left_at v m) ≡ length (left_at w m) = ap (λ l. length l) (same m e) in
-    omega arith)
-    (cases_eq m i)
+    omega arith) (cases_eq m i)
 
 pub all_fewer : (w v : Cursors) (i : ℕ) (c : Cursor) → HasFollowed w i c v → i < w.rec.now.nodes
     → length (left_at v i) < length (left_at w i) → all_left v < all_left w
@@ -414,31 +409,11 @@ first_kept w v i m stamp c f first k bk other =
 
 -- 7. The start
 
-pub start_left : (w : Cursors) → ((i : ℕ) → cursor_at w i ≡ start_of) → (i : ℕ)
-    → left_at w i ≡ told_in i 1 0 (entries_at w i)
-start_left w start i = ap (λ c. left_by i c w.rec.now) (start i)
-    ∙ ap (λ l. told_in i 1 0 l) (without_none (drop 0 (entries_at w i)))
-
 pub all_takes : (r : Record) → IsRecord r → (i : ℕ) → i < r.nodes
     → AreTakesBehind r.nodes 0 (entries_of r i)
 all_takes r is i bi =
     let each = is.each in
     All-get_or (AreTakesBehind r.nodes 0) r.journals i [] (omega arith) is.journals
-
-pub start_lawful : (w : Cursors) → IsRecord w.rec.now → ((i : ℕ) → cursor_at w i ≡ start_of)
-    → AreLawful w
-start_lawful w is start = record {
-  is_record = is;
-  left = λ i bi. subst (λ z. IsLawfulBy w.rec.now i z) (sym (start i))
-      (subst (λ l. AreTakesBehind w.rec.now.nodes 0 l)
-      (sym (without_none (drop 0 (entries_at w i)))) (all_takes w.rec.now is i bi));
-}
-
-pub through_left : (w : Cursors) (i : ℕ) → length (entries_at w i) ≤ (cursor_at w i).takes
-    → left_at w i ≡ []
-through_left w i le =
-    ap (λ l. told_in i ((cursor_at w i).takes + 1) (cursor_at w i).last
-    (without (cursor_at w i).words l)) (drop_all (cursor_at w i).takes (entries_at w i) le)
 
 -- 8. Stored journals
 

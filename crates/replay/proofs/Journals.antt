@@ -138,16 +138,14 @@ what_in i entry last (e ∷ es) =
     (what_in i (entry + 1) e.stamp es)
     ∙ append_assoc (words_from i last e.words) (take_of i e ∷ []) (events_in i e.stamp es)
 
-pub what_made : (i : ℕ) (told : List Told)
-    → made_by stamp_in maker i (map what_told told)
+pub what_made : (i : ℕ) (told : List Told) → made_by stamp_in maker i (map what_told told)
     ≡ map what_told (made_by stamp_told maker_told i told)
 what_made i [] = refl
 what_made i (x ∷ xs) =
     ap (λ l. cond (eqb (maker_told x) i) (x.what ∷ l) l) (what_made i xs)
     ∙ both (eqb (maker_told x) i)
   where
-    both : (b : Bool)
-        → cond b (x.what ∷ map what_told (made_by stamp_told maker_told i xs))
+    both : (b : Bool) → cond b (x.what ∷ map what_told (made_by stamp_told maker_told i xs))
         (map what_told (made_by stamp_told maker_told i xs))
         ≡ map what_told (cond b (x ∷ made_by stamp_told maker_told i xs)
         (made_by stamp_told maker_told i xs))

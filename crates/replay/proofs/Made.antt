@@ -20,10 +20,6 @@ pub what_append : (xs ys : List Told)
 what_append [] ys = refl
 what_append (x ∷ xs) ys = ap (λ l. x.what ∷ l) (what_append xs ys)
 
-pub run_append : (xs ys : List Stamped) → run_of (xs ++ ys) ≡ run_of xs ++ run_of ys
-run_append [] ys = refl
-run_append (x ∷ xs) ys = ap (λ l. x.event ∷ l) (run_append xs ys)
-
 pub after_more : (work : Work) (c : Core) (xs ys : List Stamped)
     → after work c (run_of (xs ++ ys)) ≡ after work (after work c (run_of xs)) (run_of ys)
 after_more work c [] ys = refl
@@ -32,8 +28,7 @@ after_more work c (x ∷ xs) ys = after_more work (event_step work c x.event) xs
 pub made_append : (work : Work) (c : Core) (xs ys : List Stamped) → AreMadeAs work c xs
     → AreMadeAs work (after work c (run_of xs)) ys → AreMadeAs work c (xs ++ ys)
 made_append work c [] ys a b = b
-made_append work c (x ∷ xs) ys a b =
-    (a.0, made_append work (event_step work c x.event) xs ys a.1 b)
+made_append work c (x ∷ xs) ys a b = (a.0, made_append work (event_step work c x.event) xs ys a.1 b)
 
 pub made_behind : (work : Work) (c : Core) (xs ys : List Stamped) → AreMadeAs work c (xs ++ ys)
     → AreMadeAs work (after work c (run_of xs)) ys

@@ -48,8 +48,7 @@ begins work w c is left last n opens =
 -- 2. Events
 
 word_step_of : (a b : Replayer) (i : ℕ) → IsRunning a → i < a.cursors.rec.now.nodes
-    → May (work_of a.core) (core_of a.core) (Exec i)
-    → AreAlike a.core.layout.nodes (core_of b.core)
+    → May (work_of a.core) (core_of a.core) (Exec i) → AreAlike a.core.layout.nodes (core_of b.core)
     (event_step (work_of a.core) (core_of a.core) (Exec i))
     → IsStep (work_of a.core) (core_of a.core) (core_of b.core) i (word_next a.cursors i)
 word_step_of a b i is bi may leads = record {
@@ -94,10 +93,8 @@ pub made_word : (a b : Replayer) (before : List Told) (i : ℕ) (e : JournalEntr
     → HasMade a before → i < a.cursors.rec.now.nodes → IsEntryOf a.cursors i e
     → (cursor_at a.cursors i).words < e.words
     → ComesFirst a.cursors a.cursors.rec.now.nodes (last_at a.cursors i + 1) i
-    → May (work_of a.core) (core_of a.core) (Exec i)
-    → AreAlike a.core.layout.nodes (core_of b.core)
-    (event_step (work_of a.core) (core_of a.core) (Exec i))
-    → work_of b.core ≡ work_of a.core
+    → May (work_of a.core) (core_of a.core) (Exec i) → AreAlike a.core.layout.nodes (core_of b.core)
+    (event_step (work_of a.core) (core_of a.core) (Exec i)) → work_of b.core ≡ work_of a.core
     → HasFollowed a.cursors i (after_word a.cursors i) b.cursors
     → HasMade b (before ++ word_next a.cursors i ∷ [])
 made_word a b before i e h bi entry lt first may leads work f =
@@ -114,10 +111,8 @@ pub run_word : (a b : Replayer) (i : ℕ) (e : JournalEntry) → IsRunning a
     → i < a.cursors.rec.now.nodes → IsEntryOf a.cursors i e
     → (cursor_at a.cursors i).words < e.words
     → ComesFirst a.cursors a.cursors.rec.now.nodes (last_at a.cursors i + 1) i
-    → May (work_of a.core) (core_of a.core) (Exec i)
-    → AreAlike a.core.layout.nodes (core_of b.core)
-    (event_step (work_of a.core) (core_of a.core) (Exec i))
-    → work_of b.core ≡ work_of a.core
+    → May (work_of a.core) (core_of a.core) (Exec i) → AreAlike a.core.layout.nodes (core_of b.core)
+    (event_step (work_of a.core) (core_of a.core) (Exec i)) → work_of b.core ≡ work_of a.core
     → HasFollowed a.cursors i (after_word a.cursors i) b.cursors → IsRunning b
 run_word a b i e is bi entry lt first may leads work f =
     running_of b (is.way.0 ++ word_next a.cursors i ∷ [])
@@ -130,8 +125,7 @@ pub made_take : (a b : Replayer) (before : List Told) (i : ℕ) (e : JournalEntr
     → May (work_of a.core) (core_of a.core) (Take i e.from)
     → AreAlike a.core.layout.nodes (core_of b.core)
     (event_step (work_of a.core) (core_of a.core) (Take i e.from))
-    → ((core_of b.core).nodes i).stamp ≡ e.stamp
-    → work_of b.core ≡ work_of a.core
+    → ((core_of b.core).nodes i).stamp ≡ e.stamp → work_of b.core ≡ work_of a.core
     → HasFollowed a.cursors i (after_take a.cursors i e) b.cursors
     → HasMade b (before ++ take_next a.cursors i e ∷ [])
 made_take a b before i e h bi entry le first may leads stamp work f =
@@ -140,8 +134,7 @@ made_take a b before i e h bi entry le first may leads stamp work f =
       lawful = take_lawful a.cursors b.cursors i e bi is.lawful entry f;
       nodes = nodes_on a b is work f.rec_is;
       way = on_way a b i (take_next a.cursors i e) (behind_take a.cursors i e) before h
-          (take_ahead a.cursors is.lawful i bi e entry le first)
-          (record {
+          (take_ahead a.cursors is.lawful i bi e entry le first) (record {
             made = record {
               may = may;
               stamp = ap (λ (n : Node). n.stamp) (sym (leads.nodes i
@@ -158,8 +151,7 @@ pub run_take : (a b : Replayer) (i : ℕ) (e : JournalEntry) → IsRunning a
     → May (work_of a.core) (core_of a.core) (Take i e.from)
     → AreAlike a.core.layout.nodes (core_of b.core)
     (event_step (work_of a.core) (core_of a.core) (Take i e.from))
-    → ((core_of b.core).nodes i).stamp ≡ e.stamp
-    → work_of b.core ≡ work_of a.core
+    → ((core_of b.core).nodes i).stamp ≡ e.stamp → work_of b.core ≡ work_of a.core
     → HasFollowed a.cursors i (after_take a.cursors i e) b.cursors → IsRunning b
 run_take a b i e is bi entry le first may leads stamp work f =
     running_of b (is.way.0 ++ take_next a.cursors i e ∷ [])
@@ -233,8 +225,7 @@ pub stamp_refused : (a : Replayer) (d : Core) (i : ℕ) (e : JournalEntry) → I
     → i < a.cursors.rec.now.nodes → IsEntryOf a.cursors i e
     → e.words ≤ (cursor_at a.cursors i).words
     → ComesFirst a.cursors a.cursors.rec.now.nodes e.stamp i
-    → May (work_of a.core) (core_of a.core) (Take i e.from)
-    → AreAlike a.core.layout.nodes d
+    → May (work_of a.core) (core_of a.core) (Take i e.from) → AreAlike a.core.layout.nodes d
     (event_step (work_of a.core) (core_of a.core) (Take i e.from))
     → (d.nodes i).stamp ≢ e.stamp → Refused a Stamp i
 stamp_refused a d i e is bi entry le first may leads other =

@@ -30,10 +30,6 @@ module _ {A : Type 0} (stamp node : A → ℕ) where
   pub made_here : (x : A) (xs : List A) → made (node x) (x ∷ xs) ≡ x ∷ made (node x) xs
   made_here x xs = rw (eq-eqb (node x) (node x) refl) refl
 
-  made_own : (i : ℕ) (xs : List A) → AreOf i xs → made i xs ≡ xs
-  made_own i [] h = refl
-  made_own i (x ∷ xs) h = rw (eq-eqb (node x) i h.0) (ap (λ l. x ∷ l) (made_own i xs h.1))
-
   -- 1. One more
 
   abbrev before : A → A → Bool
@@ -163,8 +159,7 @@ module _ {A : Type 0} (stamp node : A → ℕ) where
       ∙ rw (eq-eqb (node x) k own.0) (ap (λ l. x ∷ l) rest)
 
   weave_from : (k : ℕ) (x : A) (xs ys : List A) → node x ≡ k → AreOf k xs → Climbs xs
-      → From (stamp x + 1) xs → made k ys ≡ []
-      → From (stamp x + 1) (made (node x) (weave xs ys))
+      → From (stamp x + 1) xs → made k ys ≡ [] → From (stamp x + 1) (made (node x) (weave xs ys))
   weave_from k x xs ys is own up f none =
       subst (λ i. From (stamp x + 1) (made i (weave xs ys))) (sym is)
       (subst (λ l. From (stamp x + 1) l) (sym (weave_own k xs ys own up none)) f)
@@ -220,8 +215,7 @@ module _ {A : Type 0} (stamp node : A → ℕ) where
               (λ (e : k ≡ i). subst (λ j. made j (weave (lists k) rest.0) ≡ lists j) e
               (weave_own k (lists k) rest.0 mine.0 mine.1 none))
               (λ (e : k ≢ i). weave_other k i (lists k) rest.0 mine.0 mine.1 none e
-              ∙ rest.1.each i (omega arith))
-              (cases_eq k i);
+              ∙ rest.1.each i (omega arith)) (cases_eq k i);
         },
       )
 
@@ -267,8 +261,7 @@ module _ {A : Type 0} (stamp node : A → ℕ) where
       → AreSorted stamp node rest → AreMadeBelow stamp node n rest
       → ((k : ℕ) → k < n → made k rest ≡ left k) → i < n → node x ≡ i → left i ≡ x ∷ more
       → ((k : ℕ) → k < n → k ≢ i → (y : A) (ys : List A) → left k ≡ y ∷ ys
-      → Precedes stamp node x y)
-      → IsHead n left rest i x more
+      → Precedes stamp node x y) → IsHead n left rest i x more
   head_first n left [] i x more s u each bi is first before = absurd
       (let e : [] ≡ x ∷ more = each i bi ∙ first in cc)
   head_first n left (h ∷ t) i x more s u each bi is first before = ⊎_elim
@@ -287,8 +280,7 @@ module _ {A : Type 0} (stamp node : A → ℕ) where
       let hx = first_behind h x i t more s.0 mine in
       let xh = before (node h) u.0 e h (made (node h) t)
       (sym (each (node h) u.0) ∙ made_here h t) in
-      absurd (both_ways x h xh hx))
-      (cases_eq (node h) i)
+      absurd (both_ways x h xh hx)) (cases_eq (node h) i)
     where
       skip : (k : ℕ) (y : A) (ys : List A) → node y ≢ k → made k (y ∷ ys) ≡ made k ys
       skip k y ys other = rw (ne_eqb (node y) k other) refl

@@ -125,16 +125,14 @@ one_word work w v c before i e is bi entry lt first may f =
           (step_on work w.rec.now (left_at w) (left_at v) (last_at w) (last_at v) c d i x
           (behind_word w i) (sym is.nodes) (before, is.way)
           (subst (λ k. IsAhead k (left_at w) i x (behind_word w i)) (sym is.nodes)
-          (word_ahead w is.lawful i bi e entry lt first))
-          (record {
+          (word_ahead w is.lawful i bi e entry lt first)) (record {
             made = record {
               may = may;
               stamp = word_at work c i
                   ∙ ap (λ k. k + 1) (is.way.stamps i (subst (λ k. i < k) (sym is.nodes) bi));
             };
             leads = alike_same work.layout.nodes d;
-          })
-          (word_now w v i f));
+          }) (word_now w v i f));
     }
 
 -- a word, and so many behind it
@@ -172,8 +170,7 @@ words_run work zero w v c d before i e is bi entry le first goes f =
       events = refl;
       at = subst (λ (l : List Told). IsAt work v d l) (sym (append-nil before))
           (subst (λ (z : Core). IsAt work v z before) goes
-          (at_same work w v c before f.rec_is
-          (λ k. ⊎_elim
+          (at_same work w v c before f.rec_is (λ k. ⊎_elim
           (λ (s : k ≡ i). subst (λ z. cursor_at v z ≡ cursor_at w z) (sym s) (f.own ∙ sym none.own))
           (λ (o : k ≢ i). f.others k o) (cases_eq k i)) is));
     }
@@ -191,8 +188,7 @@ words_run work (suc k) w v c d before i e is bi entry le comes goes f =
     let rest = words_run work k u v next d (before ++ x ∷ []) i e
     (one_word work w u c before i e is bi entry (omega arith)
     (first_sooner w w.rec.now.nodes (last_at w i + suc k) (last_at w i + 1) i (omega arith) first)
-    goes.0 g)
-    bi (entry_kept w u i 1 e g entry) within
+    goes.0 g) bi (entry_kept w u i 1 e g entry) within
     (λ some. subst (λ x. ComesFirst u w.rec.now.nodes x i) last
     (first_kept w u i w.rec.now.nodes (last_at w i + suc k) (after_word w i) g first))
     goes.2 (words_behind w u v i k g f) in

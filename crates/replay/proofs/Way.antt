@@ -34,8 +34,7 @@ Head n left rest i x more = IsHead stamp_told maker_told n left rest i x more
 head_of : (work : Work) (r : Record) (left : ℕ → List Told) (last : ℕ → ℕ) (c : Core)
     (i : ℕ) (x : Told) (more : List Told) → r.nodes ≡ work.layout.nodes
     → (w : IsOnWay work r left last c)
-    → IsAhead work.layout.nodes left i x more
-    → Head work.layout.nodes left w.1.rest i x more
+    → IsAhead work.layout.nodes left i x more → Head work.layout.nodes left w.1.rest i x more
 head_of work r left last c i x more n w a =
     head_first stamp_told maker_told work.layout.nodes left w.1.rest i x more
     (sorted_behind stamp_told maker_told w.0 w.1.rest w.1.are_told.sorted)
@@ -84,13 +83,11 @@ step_on work r left left2 last last2 c d i x more n w a s now =
     let all : map what_told (w.0 ++ x ∷ []) ≡ map what_told w.0 ++ x.what ∷ [] =
     what_append w.0 (x ∷ []) in
     let ends : after work o (events_told (w.0 ++ x ∷ [])) ≡ event_step work t x.what.event =
-    ap (λ l. after work o (run_of l)) all
-    ∙ after_more work o (map what_told w.0) (x.what ∷ []) in
+    ap (λ l. after work o (run_of l)) all ∙ after_more work o (map what_told w.0) (x.what ∷ []) in
     record {
       rest = h.tail;
       are_told = subst (λ l. AreToldBy r l)
-          (ap (λ l. w.0 ++ l) h.rest_is ∙ sym (append_assoc w.0 (x ∷ []) h.tail))
-          w.1.are_told;
+          (ap (λ l. w.0 ++ l) h.rest_is ∙ sym (append_assoc w.0 (x ∷ []) h.tail)) w.1.are_told;
       made = subst (λ l. AreMadeAs work o l) (sym all)
           (made_append work o (map what_told w.0) (x.what ∷ []) w.1.made (made, tt));
       alike = subst (λ (u : Core). AreAlike work.layout.nodes d u) (sym ends)
@@ -103,8 +100,7 @@ step_on work r left left2 last last2 c d i x more n w a s now =
           (λ (e : k ≢ i). h.others k bk e ∙ sym (now.others k e)) (cases_eq k i);
       stamps = λ k bk. ap (λ (z : Node). z.stamp) (s.leads.nodes k bk) ∙ ⊎_elim
           (λ (e : k ≡ i). subst (λ j. ((event_step work c x.what.event).nodes j).stamp ≡ last2 j)
-          (a.maker_is ∙ sym e) (s.made.stamp ∙ sym now.stamp
-          ∙ ap last2 (sym a.maker_is)))
+          (a.maker_is ∙ sym e) (s.made.stamp ∙ sym now.stamp ∙ ap last2 (sym a.maker_is)))
           (λ (e : k ≢ i). ap (λ (z : Node). z.stamp)
           (nodes_apart work c x.what.event k (λ q. e (q ∙ a.maker_is)))
           ∙ w.1.stamps k bk ∙ sym (now.lasts k e)) (cases_eq k i);
@@ -169,8 +165,7 @@ lacks work r left last c i j x more n w a is bj none =
     let t = after work (opening_core work) (events_told w.0) in
     broken_on work r left last c i x more NoMessage n w a
     (subst (λ e. Breaks work t (record { stamp = x.what.stamp; event = e }) NoMessage) (sym is)
-    (sym (w.1.alike.lists j i bj a.below) ∙ none))
-    (λ other lt b. lower other lt)
+    (sym (w.1.alike.lists j i bj a.below) ∙ none)) (λ other lt b. lower other lt)
   where
     lower : (other : ReplayRule) → number_of other < 44 → ⊥
     lower NoMessage lt = omega arith
@@ -261,8 +256,7 @@ pub replayed : (work : Work) (r : Record) (left : ℕ → List Told) (last : ℕ
     (o : Outcome) → r.nodes ≡ work.layout.nodes → IsOnWay work r left last c
     → ((i : ℕ) → i < work.layout.nodes → left i ≡ []) → IsOver work c
     → (events : List Stamped) × StandsForOwnRun work c events
-    × IsOutcomeOf work (run_of events) o
-    → IsReplay work r o
+    × IsOutcomeOf work (run_of events) o → IsReplay work r o
 replayed work r left last c o n w none over given =
     let t = after work (opening_core work) (events_told w.0) in
     let told = whole work r left last c n w none in

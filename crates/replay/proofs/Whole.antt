@@ -113,8 +113,7 @@ bye_comes stamp i (suc n) lt e =
     ∙ none in cc) in
     back_some (wires_to stamp i (byes_to n)) (wires_to stamp i (post n Bye ∷ [])) last parts)
     (λ (other : n ≢ i). front_some (wires_to stamp i (byes_to n))
-    (wires_to stamp i (post n Bye ∷ [])) (bye_comes stamp i n (omega arith)) parts)
-    (cases_eq n i)
+    (wires_to stamp i (post n Bye ∷ [])) (bye_comes stamp i n (omega arith)) parts) (cases_eq n i)
 
 -- the turn in which a node ends tells the node itself
 ends_told : (n i stamp : ℕ) (t : Turn) (b : Bool) → i < n → is_ended t.node.phase ≡ b
@@ -218,8 +217,7 @@ over_ended work n (Waiting r) e = absurd cc
 over_ended work n (Ended end) e = refl
 
 pub over_told : (work : Work) (run : List Event) (i : ℕ) → IsCoreRun work (opening_core work) run
-    → i < work.layout.nodes
-    → standing_of work ((after work (opening_core work) run).nodes i) ≡ Over
+    → i < work.layout.nodes → standing_of work ((after work (opening_core work) run).nodes i) ≡ Over
     → (after work (opening_core work) run).list i i ≡ []
     → ((after work (opening_core work) run).nodes i).executed
     ≡ words_before ((after work (opening_core work) run).nodes i).journal

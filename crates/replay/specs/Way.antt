@@ -51,7 +51,7 @@ left_at w i =
 abbrev pub last_at : Cursors → ℕ → ℕ
 last_at w i = (cursor_at w i).last
 
--- of a record; what is left of each journal is of takes one behind another
+-- of a record; what is left of each journal is of takes one after another
 pub record AreLawful (w : Cursors) : Type 0 where
   pub is_record : IsRecord w.rec.now
   pub left : (i : ℕ) → i < w.rec.now.nodes
@@ -74,7 +74,7 @@ ComesBefore stamp node i left = (s : ℕ) → IsNext i s left
 abbrev pub ComesFirst : (w : Cursors) (m stamp node : ℕ) → Type 0
 ComesFirst w m stamp node = (i : ℕ) → i < m → i ≢ node → ComesBefore stamp node i (left_at w i)
 
--- of the nodes below m, this one's next event has this stamp; it and the words behind it, up to the
+-- of the nodes below m, this one's next event has this stamp; it and the words after it, up to the
 -- stamp `to`, come before the events of all others
 pub record IsFirst (w : Cursors) (m : ℕ) (x : First) : Type 0 where
   pub below : x.node < m
@@ -93,7 +93,7 @@ pub record HasFollowed (old : Cursors) (node : ℕ) (c : Cursor) (new : Cursors)
   pub others : (i : ℕ) → i ≢ node → cursor_at new i ≡ cursor_at old i
 
 -- The core has made these events, which are the first that the record tells of, as they are told
--- of, and these are left to each node, behind its event with this stamp.
+-- of, and these are left to each node, after its event with this stamp.
 pub record IsBehind (work : Work) (r : Record) (left : ℕ → List Told) (last : ℕ → ℕ) (c : Core)
     (before : List Told) : Type 0 where
   pub rest : List Told

@@ -163,7 +163,7 @@ impl<'a> Cursors<'a> {
         }
     }
 
-    /// A node has executed so many words more.
+    /// A node has executed `words` more words.
     pub(crate) fn follow_words(&mut self, node: u8, entry: Entry, words: u64)
         requires lawful { AreLawful self.old }
         requires node { node < self.old.rec.now.nodes }

@@ -2,7 +2,7 @@
 
 use crate::cursor::{Cursors, First};
 use crate::refused::{ReplayRefused, ReplayRule};
-use dsm_core::node_machine::Visits;
+use dsm_core::node_machine::node_words::WordLoop;
 use dsm_core::{Core, Event, Outcome, Seen, Work};
 use run_order::node_model::{Entry, Standing};
 use run_record::Record;
@@ -35,9 +35,7 @@ impl<'a> Replayer<'a> {
     ghost use Rattle.dsm_core.specs.CoreParts.{work_in, work_of, core_of, outcome_of};
     ghost use Rattle.dsm_core.specs.CoreParts.{event_of};
     ghost use Rattle.dsm_core.specs.CoreWords.{HasPassedWords};
-    ghost use Rattle.dsm_core.specs.node_machine.word_visits.Visits.{AreCounted};
-    ghost use Rattle.dsm_core.specs.node_machine.word_visits.VisitTables.{AreVisitsIn};
-    ghost use Rattle.dsm_core.specs.node_machine.word_visits.VisitTables.{StayVisits, visits_of};
+    ghost use Rattle.dsm_core.specs.node_machine.jump_map.Image.{Cell};
     ghost use Rattle.run_record.specs.Record.{IsRecord};
     ghost use Rattle.replay.specs.Refusals.{IsFirstBroken, IsUnfinished};
     ghost use Rattle.replay.specs.Replay.{IsReplay, TellsWholeRun};
@@ -159,27 +157,27 @@ impl<'a> Replayer<'a> {
         true
     }
 
-    /// Makes words of a stretch one by one, as long as they print nothing and send nothing, count
-    /// among the visits, and the node may execute another behind them. It gives how many.
-    pub fn make_silent_words(&mut self, stretch: &mut WordsAhead, visits: &mut Visits) -> u64
+    /// Makes words of a stretch by a loop, as long as they print nothing and send nothing, and the
+    /// node may execute another after them. It gives how many.
+    pub fn make_silent_words<L: WordLoop>(&mut self, stretch: &mut WordsAhead, by: &mut L) -> u64
         requires running { IsRunning self.old }
         requires stretch { IsStretch self.old stretch.old }
-        requires table { AreVisitsIn (work_of (core_in self.old)).image visits.old }
+        requires goes_over { L.goes_over (work_of (core_in self.old)).image by.old }
         ensures made { (before : List Told) → HasMade self.old before
             → HasMadeWords self.new before stretch.old.node result }
         ensures passed { HasPassedWords (work_of (core_in self.old)) stretch.old.node result
             (core_of (core_in self.old)) (core_of (core_in self.new)) }
-        ensures visits { AreCounted (work_of (core_in self.old)) result
-            ((core_of (core_in self.old)).nodes stretch.old.node) (visits_of visits.old)
-            (visits_of visits.new) }
-        ensures table { StayVisits visits.old visits.new }
+        ensures learns { L.learns (work_of (core_in self.old)) result
+            ((core_of (core_in self.old)).nodes stretch.old.node) by.old by.new }
+        ensures stays { (image : List Cell) → L.goes_over image by.old
+            → L.goes_over image by.new }
         ensures stretch { IsStretch self.new stretch.new }
         ensures left { IsLessBy result stretch.old stretch.new }
         ensures fewer { 0 < result → events_left self.new < events_left self.old }
         ensures most { events_left self.new ≤ events_left self.old }
         ensures same { IsSame self.old self.new }
     {
-        let words = self.core.run_visiting(stretch.node, stretch.words, visits);
+        let words = self.core.run_by(stretch.node, by, stretch.words);
         self.cursors
             .follow_words(stretch.node, stretch.entry, words);
         stretch.words -= words;
@@ -268,7 +266,7 @@ impl<'a> Replayer<'a> {
         Ok(())
     }
 
-    /// A node executes so many words of an entry, which come before the events of all others.
+    /// A node executes `words` words of an entry, which come before the events of all others.
     fn execute(&mut self, node: u8, entry: Entry, words: u64) -> Result<(), ReplayRefused>
         requires running { IsRunning self.old }
         requires node { node < self.old.cursors.rec.now.nodes }
@@ -302,7 +300,7 @@ impl<'a> Replayer<'a> {
     }
 
     /// A node executes words of an entry, which come before the events of all others, as long as
-    /// they print nothing and send nothing: at most so many. It gives how many.
+    /// they print nothing and send nothing, at most `most`. It gives how many.
     fn silent_words(&mut self, node: u8, entry: Entry, most: u64) -> u64
         requires running { IsRunning self.old }
         requires node { node < self.old.cursors.rec.now.nodes }

@@ -1,5 +1,8 @@
 #![tactic(auto)]
 //! Makes the run of a record once more.
+//!
+//! It hands on what a run is and what is known of it: [`dsm_core`], [`node_machine`],
+//! [`node_model`], [`run_record`], [`run_order`] and [`rewriting_law`].
 
 ghost use Rattle.std.specs.Prelude.{◌≡◌, ℕ, ◌⊎◌, IfOk, IsErrOf};
 ghost use Rattle.dsm_core.specs.rewriting_law.Bounds.{RunsRewritten};

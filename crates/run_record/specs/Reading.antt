@@ -35,7 +35,7 @@ pub record IsLack (left : Left) (e : RecordRefused) : Type 0 where
 abbrev pub FaultsPass : Awaits → Left → Awaits → Left → Type 0
 FaultsPass before old behind new = (e : RecordRefused) → IsFault behind new e → IsFault before old e
 
--- lines without a fault were read, and the last is awaited behind them
+-- lines without a fault were read, and the last is awaited after them
 pub record IsRead (before : Awaits) (old : Left) (lines : List ℕ) (behind : Awaits) (new : Left)
     : Type 0 where
   pub bytes_are : old.bytes ≡ lines ++ new.bytes

@@ -11,7 +11,7 @@ pub record IsBlockLine (r : BlockRange) : Type 0 where
   pub size : r.block ≤ 99999
   pub home : IfSome r.home (λ node. node ≤ 99)
 
--- a message from one of so many nodes, taken behind the stamp of the node's last take: each of the
+-- a message from one of so many nodes, taken after the stamp of the node's last take: each of the
 -- words executed since then, and the take itself, have stamps of their own
 pub record IsTakeBehind (nodes last : ℕ) (e : Entry) : Type 0 where
   pub from : e.from < nodes
@@ -19,7 +19,7 @@ pub record IsTakeBehind (nodes last : ℕ) (e : Entry) : Type 0 where
   pub low : e.stamp < 2 ^ 63
   pub few_words : e.words < 2 ^ 63
 
--- the takes of a node, one behind another
+-- the takes of a node, one after another
 abbrev pub AreTakesBehind : (nodes last : ℕ) → List Entry → Type 0
 AreTakesBehind nodes last [] = Unit {0}
 AreTakesBehind nodes last (e ∷ es) = IsTakeBehind nodes last e × AreTakesBehind nodes e.stamp es

@@ -27,9 +27,9 @@ text_lines [] = []
 text_lines (c ∷ cs) =
     if c == 10 then (c ∷ []) ∷ text_lines cs else onto_first c (text_lines cs)
 
--- the line that is awaited behind others, or nothing behind the last one: those of the head, where
--- the version and the number of nodes are known behind their own lines; a range, or the first node;
--- the node of this number; a take of the node behind its last stamp, or its end
+-- the line that is awaited after others, or nothing after the last one: those of the head, where
+-- the version and the number of nodes are known after their own lines; a range, or the first node;
+-- the node of this number; a take of the node after its last stamp, or its end
 pub data Awaits : Type 0 where
   Version : Awaits
   Nodes : (version : Versions) → Awaits
@@ -46,7 +46,7 @@ abbrev pub number_of_version : Versions → ℕ
 number_of_version First = 1
 number_of_version Second = 2
 
--- behind the batching, the second version names the number of rewritten words
+-- after the batching, the second version names the number of rewritten words
 abbrev pub awaited_behind_batch : Versions → (nodes : ℕ) → Awaits
 awaited_behind_batch First nodes = Range First nodes
 awaited_behind_batch Second nodes = Code nodes
@@ -69,7 +69,7 @@ pub record HasTake (line : List ℕ) (t : TakeLine) : Type 0 where
   pub from : t.from < 2 ^ 63
   pub words : t.words < 2 ^ 63
 
--- the stamp that a take has by its line, behind the stamp of the node's last take
+-- the stamp that a take has by its line, after the stamp of the node's last take
 abbrev pub stamp_of : Versions → (last : ℕ) → TakeLine → ℕ
 stamp_of First last t = t.stamp_or_gap
 stamp_of Second last t = least_stamp last t.words + t.stamp_or_gap
@@ -130,11 +130,11 @@ pub record IsBroken (awaited : Awaits) (line : List ℕ) (rule : RecordRule) : T
   pub lowest : (other : RecordRule) → number_of other < number_of rule →
       Breaks awaited line other → ⊥
 
--- the next node, or nothing behind the last one
+-- the next node, or nothing after the last one
 abbrev pub node_awaited : Versions → (nodes node : ℕ) → Awaits
 node_awaited version nodes node = if node == nodes then Nothing else Node version nodes node
 
--- the line breaks no rule where the first is awaited, and the second is awaited behind it
+-- the line breaks no rule where the first is awaited, and the second is awaited after it
 abbrev pub Leads : Awaits → List ℕ → Awaits → Type 0
 Leads Version line next =
     (version : Versions) × HasNumber line (codes "shasta-record ") (number_of_version version)
@@ -161,7 +161,7 @@ Leads (Take version nodes node last) line next =
 Leads Nothing line next = ⊥
 
 -- the first line that breaks a rule, of lines of which the first has this number, and the lowest
--- rule that it breaks; where lines end too early, the line behind them breaks the first rule
+-- rule that it breaks; where lines end too early, the line after them breaks the first rule
 abbrev pub IsFirstBroken : Awaits → ℕ → List (List ℕ) → RecordRule → ℕ → Type 0
 IsFirstBroken awaited first [] rule number =
     (awaited ≡ Nothing → ⊥) × (rule ≡ rules.Syntax) × (number ≡ first)

@@ -65,7 +65,7 @@ take_line t =
     codes "take " ++ (decimal t.stamp_or_gap ++ (codes " " ++ (decimal t.from
     ++ number_line (codes " ") t.words)))
 
--- the least stamp of a take behind the stamp of the node's last take: each of the words executed
+-- the least stamp of a take after the stamp of the node's last take: each of the words executed
 -- since then, and the take itself, have stamps of their own
 abbrev pub least_stamp : (last words : ℕ) → ℕ
 least_stamp last words = last + words + 1
@@ -75,7 +75,7 @@ abbrev pub stamp_or_gap_of : Version → (last : ℕ) → Entry → ℕ
 stamp_or_gap_of First last e = e.stamp
 stamp_or_gap_of Second last e = e.stamp - least_stamp last e.words
 
--- what the line of a take says, behind the stamp of the node's last take
+-- what the line of a take says, after the stamp of the node's last take
 abbrev pub told_of : Version → (last : ℕ) → Entry → TakeLine
 told_of version last e =
     record { stamp_or_gap = stamp_or_gap_of version last e; from = e.from; words = e.words }
@@ -85,7 +85,7 @@ take_lines version last [] = []
 take_lines version last (e ∷ es) =
     take_line (told_of version last e) ++ take_lines version e.stamp es
 
--- for each node, from this number on: its number, its takes, the first behind stamp 0, and an end
+-- for each node, from this number on: its number, its takes, the first after stamp 0, and an end
 abbrev pub journal_lines : Version → ℕ → List (List Entry) → List ℕ
 journal_lines version node [] = []
 journal_lines version node (es ∷ more) =

@@ -25,7 +25,7 @@ use std::alloc::AllocError;
 use text::push_record;
 
 /// What is kept of a run, so that it can be run once more.
-#[derive(Debug, Drop)]
+#[derive(Drop)]
 pub struct Record {
     /// How many nodes it had.
     pub nodes: u8,

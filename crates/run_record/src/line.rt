@@ -35,7 +35,7 @@ pub struct TakeLine {
     pub words: u64,
 }
 
-/// What stands behind a word.
+/// What stands after a word.
 fn behind<'a>(text: &'a [u8], word: &[u8]) -> Option<&'a [u8]>
     ensures some { IfSome result (λ r. text.now ≡ word.now ++ r.now) }
     ensures only { (rest : List ℕ) → text.now ≡ word.now ++ rest
@@ -88,7 +88,7 @@ pub(crate) fn number_line(line: &[u8], word: &[u8]) -> Option<u64>
     number_of(digits)
 }
 
-/// The number behind a word, and what stands from the next space on.
+/// The number after a word, and what stands from the next space on.
 fn number_then<'a>(text: &'a [u8], word: &[u8]) -> Option<(u64, &'a [u8])>
     ensures some { IfSome result (λ p. IsNumberThen text.now word.now p.0 p.1.now) }
     ensures only { (n : ℕ) (rest : List ℕ) → IsNumberThen text.now word.now n rest
@@ -126,7 +126,7 @@ fn address_of(digits: &[u8]) -> Option<u32>
     Some(address)
 }
 
-/// The address behind a word, and what follows it.
+/// The address after a word, and what follows it.
 fn place_then<'a>(text: &'a [u8], word: &[u8]) -> Option<(u32, &'a [u8])>
     ensures some { IfSome result (λ p. IsPlaceThen text.now word.now p.0 p.1.now) }
     ensures only { (n : ℕ) (rest : List ℕ) → IsPlaceThen text.now word.now n rest
@@ -157,7 +157,7 @@ fn home_of(end: &[u8]) -> Option<Option<u8>>
     Some(Some(home as u8))
 }
 
-/// The block size behind a space, and the end of the line.
+/// The block size after a space, and the end of the line.
 fn size_then(text: &[u8]) -> Option<(u32, &[u8])>
     ensures some { IfSome result (λ p. (p.0 ≤ 99999)
         × IsNumberThen text.now (codes " ") p.0 p.1.now) }

@@ -8,7 +8,7 @@ use node_model::Entry;
 use std::marker::Model;
 
 /// The ranges of a layout, in its order. Contracts see the list of them.
-#[derive(Debug, Drop)]
+#[derive(Drop)]
 pub struct Blocks {
     ranges: Vec<BlockRange>,
 }
@@ -39,7 +39,7 @@ impl Blocks {
 }
 
 /// For each node, from 0 on, the messages that it took. Contracts see the list of the lists.
-#[derive(Debug, Drop)]
+#[derive(Drop)]
 pub struct Journals {
     journals: Vec<Vec<Entry>>,
 }

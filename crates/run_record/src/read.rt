@@ -58,7 +58,7 @@ fn read_nodes(lines: &mut TextLines<'_>) -> Result<u8, RecordRefused>
         return Err(RecordRule::Syntax.at(line.number));
     };
     match NodeCount::of(number) {
-        Some(nodes) => Ok(nodes.number()),
+        Some(nodes) => Ok(nodes.as_u8()),
         None => Err(RecordRule::Node.at(line.number)),
     }
 }
@@ -178,7 +178,7 @@ fn read_node(lines: &mut TextLines<'_>, node: u8) -> Result<(), RecordRefused>
     Ok(())
 }
 
-/// Reads a take behind a stamp, or the end of its node.
+/// Reads a take after a stamp, or the end of its node.
 fn read_take(
     lines: &mut TextLines<'_>,
     version: Version,
@@ -297,7 +297,7 @@ fn record_of(alloc: Global, text: &[u8]) -> Result<Record, RecordRefused>
 /// line `take` for each of its takes, with the stamp, the sender and the words executed since the
 /// take before, and `end`. Nothing follows.
 ///
-/// A text that begins with `shasta-record 2` has behind its batching a line `code` with the number
+/// A text that begins with `shasta-record 2` has after its batching a line `code` with the number
 /// of rewritten words, 1 to 4194303. In place of its stamp a take has the number by which this is
 /// above the least that it may be: the stamp of the take before, and the words executed since then,
 /// and 1.

@@ -8,7 +8,7 @@ use thiserror::Error;
 pub enum RecordRule {
     /// The line is in the grammar, and isn't lacking.
     Syntax,
-    /// The words before a take, and the take, have stamps of their own behind the node's last,
+    /// The words before a take, and the take, have stamps of their own after the node's last,
     /// below 2^63.
     Stamps,
     /// There are 1 to 16 nodes, their lines are in order, and a sender is a node.

@@ -129,7 +129,7 @@ fn push_journal(
     Ok(())
 }
 
-/// Appends a line for each take, of which the first comes behind stamp 0.
+/// Appends a line for each take. The first comes after stamp 0.
 fn push_takes(text: &mut Vec<u8>, version: Version, journal: &[Entry]) -> Result<(), AllocError>
     requires { (nodes : ℕ) × AreTakesBehind nodes 0 journal.now }
     ensures { OnOk result (text.new.items

@@ -50,7 +50,7 @@ impl Version {
         }
     }
 
-    /// What the line of a take says that comes behind this stamp.
+    /// What the line of a take says that comes after this stamp.
     pub(crate) fn line_of(self, last: u64, entry: Entry) -> TakeLine
         requires stamp { last + entry.words + 1 ≤ entry.stamp }
         ensures value { result ≡ model.told_of self last entry }
@@ -66,7 +66,7 @@ impl Version {
         }
     }
 
-    /// The stamp of a take behind this one, by its line; None exactly where it may not have that.
+    /// The stamp of a take after this one, by its line; None exactly where it may not have that.
     pub(crate) fn stamp_of(self, last: u64, take: TakeLine) -> Option<u64>
         requires last { last < 2 ^ 63 }
         requires stamp_or_gap { take.stamp_or_gap < 2 ^ 63 }

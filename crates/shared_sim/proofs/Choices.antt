@@ -307,8 +307,7 @@ take_told work c i j b may iff =
 
 pub one_take_more : (work : Work) (c : Core) (i j : ℕ) (b : Bool) (before now : List Event)
     → now ≡ before ++ filter (is_allowed work c) (map (λ k. Take i k) (range_with_len 0 j))
-    → is_allowed work c (Take i j) ≡ b
-    → now ++ cond b (Take i j ∷ []) []
+    → is_allowed work c (Take i j) ≡ b → now ++ cond b (Take i j ∷ []) []
     ≡ before ++ filter (is_allowed work c) (map (λ k. Take i k) (range_with_len 0 (j + 1)))
 one_take_more work c i j b before now listed is =
     let p = is_allowed work c in
@@ -322,16 +321,3 @@ pub one_node : (b : Bool) (x : Event) (before takes : List Event)
     → (before ++ cond b (x ∷ []) []) ++ takes ≡ before ++ cond b (x ∷ takes) takes
 one_node true x before takes = append_assoc before (x ∷ []) takes
 one_node false x before takes = ap (λ xs. xs ++ takes) (append-nil before)
-
-pub one_node_more : (work : Work) (c : Core) (i : ℕ) (before now : List Event)
-    → before ≡ filter (is_allowed work c) (flat_map (events_at work.layout.nodes) (range_with_len 0 i))
-    → now ≡ before ++ filter (is_allowed work c) (events_at work.layout.nodes i)
-    → now ≡ filter (is_allowed work c) (flat_map (events_at work.layout.nodes) (range_with_len 0 (i + 1)))
-one_node_more work c i before now all more =
-    let p = is_allowed work c in
-    let f = events_at work.layout.nodes in
-    let next : suc i ≡ i + 1 = omega arith in
-    let here : i ≡ 0 + i = omega arith in
-    more ∙ ap (λ xs. xs ++ filter p (f i)) all
-    ∙ ap (λ z. filter p (flat_map f (range_with_len 0 i)) ++ filter p (f z)) here
-    ∙ sym (filtered_more p f 0 i) ∙ ap (λ z. filter p (flat_map f (range_with_len 0 z))) next

@@ -165,8 +165,7 @@ empty_row work c i [] listed none = sym listed
 empty_row work c i (x ∷ xs) listed none = absurd (omega (arith, none))
 
 pub word_picks : (work : Work) (c : Core) (i turns number : ℕ) → i < work.layout.nodes
-    → allowed_at work c i ≡ Exec i ∷ []
-    → picks_of i (choices work c) turns number
+    → allowed_at work c i ≡ Exec i ∷ [] → picks_of i (choices work c) turns number
     ≡ how_often (length (allowed_from work c 0 i)) (length (choices work c)) turns number
 word_picks work c i turns number low row =
     let n = work.layout.nodes in

@@ -57,8 +57,7 @@ here_at work c a k left items e listed low is =
     let len : length items ≡ length row = sym (length-map items event_of) ∙ ap length listed in
     ap (λ xs. slice_get xs left) (one_row work c a k)
     ∙ get_first row (allowed_from work c (a + 1) k) left (omega (arith, len, low))
-    ∙ ap (λ xs. slice_get xs left) (sym listed)
-    ∙ slice_get-map event_of items left
+    ∙ ap (λ xs. slice_get xs left) (sym listed) ∙ slice_get-map event_of items left
     ∙ ap (option_map event_of) (slice_get_read items (length items) left e refl low is)
 
 -- one of those behind it

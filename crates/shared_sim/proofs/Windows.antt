@@ -32,8 +32,7 @@ may_by : (work : Work) (n : Node) (p : Phase) → can_execute p ≡ true
     → may_execute (standing_in work n p) ≡ true
 may_by work n Running can = at_poll (is_at_poll work n)
 may_by work n Resumed can = refl
-may_by work n (Waiting r) can = absurd (cc)
-may_by work n (Ended e) can = absurd (cc)
+may_by work n other can = absurd (cc)
 
 -- a node that goes on by words may execute the first of them; where there is none it is the last
 goes_may : (work : Work) (k : ℕ) (n m : Node) → GoesOnBy work k n m
@@ -195,8 +194,7 @@ window_makes work (suc turns) number words c d w =
 pub window_leads : (work : Work) (turns number : ℕ) (words : ℕ → ℕ) (c d : Core)
     → IsCalm work.layout.nodes c → 1 ≤ length (choices work c)
     → ((i : ℕ) → i < work.layout.nodes → words i ≡ picks_of i (choices work c) turns number)
-    → HaveEachPassed work words c d
-    → LeadsOn work turns number c (after_turns turns number) d
+    → HaveEachPassed work words c d → LeadsOn work turns number c (after_turns turns number) d
 window_leads work turns number words c d calm some are passed =
     let m = window_makes work turns number words c d (record {
       calm = calm;

@@ -255,7 +255,7 @@ impl<'a> OrderedRun<'a> {
         turns
     }
 
-    /// Makes so many turns at once, where no message is on its way and each of them is a word by a
+    /// Makes `turns` turns at once, where no message is on its way and each of them is a word by a
     /// micro-op. Otherwise nothing changes, and the answer tells a node that stops before.
     fn run_turns(&mut self, turns: u32) -> Result<(), StoppedEarly>
         requires ready { IsReady self.old }

@@ -166,7 +166,7 @@ impl Listing {
     }
 }
 
-/// Rows with room for the events of so many nodes.
+/// Rows with room for the events of `count` nodes.
 fn empty_rows(alloc: Global, count: u8) -> Result<Vec<Vec<Event>>, AllocError>
     ensures count { IfOk result (λ rows. length rows.items ≡ count) }
     ensures room { IfOk result (λ rows. (i : ℕ) → i < count → HasRowRoom count rows.items i) }

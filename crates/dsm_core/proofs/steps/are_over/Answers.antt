@@ -20,8 +20,7 @@ pub loop-node-preserved : goal.loop-node-preserved
 loop-node-preserved c = record {
   over = λ work lists have i below. elim (eqb_tells i c.loop-node.node) [
     | inl t ↦ subst (λ k. standing_of work ((core_with work c.args.nodes.now lists).nodes k) ≡ Over)
-        (sym t.1)
-        (sym (c.standing.ensures.value work lists have)
+        (sym t.1) (sym (c.standing.ensures.value work lists have)
         ∙ c.is_over.ensures.0 c.if-not-is_over.false)
     | inr t ↦ c.loop-node.invariant.over work lists have i
         (let other = t.1 in omega (arith, other, below))

@@ -10,8 +10,7 @@ pub returns-then-not-is_over : goal.returns-then-not-is_over
 returns-then-not-is_over c = record {
   value = λ work links order losses e have. (
     λ t i below. (let bad : false ≡ true = t in cc),
-    λ over. sym c.if-not-is_over.true
-        ∙ c.is_over.ensures.1 (c.standing.ensures.value work have
+    λ over. sym c.if-not-is_over.true ∙ c.is_over.ensures.1 (c.standing.ensures.value work have
         ∙ over c.loop-node.node (subst (λ z. c.loop-node.node < z) (sym e) c.loop-node-test.true)),
   );
 }
@@ -20,8 +19,7 @@ pub loop-node-preserved : goal.loop-node-preserved
 loop-node-preserved c = record {
   over = λ work have i below. elim (eqb_tells i c.loop-node.node) [
     | inl t ↦ subst (λ k. standing_of work (node_or c.args.nodes.now k (opening_node work k)) ≡ Over)
-        (sym t.1)
-        (sym (c.standing.ensures.value work have)
+        (sym t.1) (sym (c.standing.ensures.value work have)
         ∙ c.is_over.ensures.0 c.if-not-is_over.false)
     | inr t ↦ c.loop-node.invariant.over work have i
         (let other = t.1 in omega (arith, other, below))

@@ -30,8 +30,8 @@ returns-then-exec_silent-clause-event c = passed_made c.args.count c.args.node c
     c.index_mut.result.now c.exec_silent.new.self c.args.links.now.items c.requires.count
     c.requires.allowed.0 c.index_mut.ensures.value (c.exec_silent.ensures.passed c.if-exec_silent.true).0
 
-pub exec-turn-requires-clause-may : goal.exec-turn-requires-clause-may
-exec-turn-requires-clause-may c =
+pub exec_into-turn-requires-clause-may : goal.exec_into-turn-requires-clause-may
+exec_into-turn-requires-clause-may c =
     let ns0 = c.args.nodes.now.items in
     let ns1 = set ns0 c.args.node c.exec_silent.new.self in
     let ns2 = set ns1 c.args.node c.room.new.self in
@@ -48,8 +48,8 @@ exec-turn-requires-clause-may c =
     may_read c.args.count c.args.node ns0 ns2 c.index_mut-3.result.now len2 bi same2
     c.index_mut-3.ensures.value c.requires.allowed.1
 
-pub exec-turn-requires-clause-stamp : goal.exec-turn-requires-clause-stamp
-exec-turn-requires-clause-stamp c =
+pub exec_into-turn-requires-clause-stamp : goal.exec_into-turn-requires-clause-stamp
+exec_into-turn-requires-clause-stamp c =
     let ns0 = c.args.nodes.now.items in
     let ns1 = set ns0 c.args.node c.exec_silent.new.self in
     let ns2 = set ns1 c.args.node c.room.new.self in
@@ -83,8 +83,8 @@ returns-clause-works c =
     c.room.ensures.node c.room.ensures.work in
     on_ok c.offer.result (λ (few : HaveOfferedFew 18 c.args.links.now.items
     c.offer.new.links.items c.args.count). works_set c.args.count c.args.node ns0 ns2
-    c.index_mut-3.result.now c.exec-turn.new.self len2 bi same2 c.index_mut-3.ensures.value
-    c.exec-turn.ensures.work) c.offer.ensures.few
+    c.index_mut-3.result.now c.exec_into-turn.new.self len2 bi same2 c.index_mut-3.ensures.value
+    c.exec_into-turn.ensures.work) c.offer.ensures.few
 
 pub returns-clause-event : goal.returns-clause-event
 returns-clause-event c =
@@ -102,9 +102,9 @@ returns-clause-event c =
     c.index_mut-2.result.now c.room.new.self len1 bi same1 c.index_mut-2.ensures.value
     c.room.ensures.node c.room.ensures.work in
     on_ok c.offer.result (λ (sent : HaveOffered c.args.links.now.items c.offer.new.links.items
-    c.args.count c.args.node c.exec-turn.result.stamp c.exec-turn.new.sends.items).
-    word_made c.args.count c.args.node ns0 ns2 c.index_mut-3.result.now c.exec-turn.new.self
-    c.args.links.now.items c.offer.new.links.items c.exec-turn.result.stamp
-    c.exec-turn.new.sends.items len2 bi same2 c.index_mut-3.ensures.value sent
-    c.exec-turn.ensures.node c.exec-turn.ensures.sends c.exec-turn.ensures.stamp)
+    c.args.count c.args.node c.exec_into-turn.result.stamp c.exec_into-turn.new.sends.items).
+    word_made c.args.count c.args.node ns0 ns2 c.index_mut-3.result.now c.exec_into-turn.new.self
+    c.args.links.now.items c.offer.new.links.items c.exec_into-turn.result.stamp
+    c.exec_into-turn.new.sends.items len2 bi same2 c.index_mut-3.ensures.value sent
+    c.exec_into-turn.ensures.node c.exec_into-turn.ensures.sends c.exec_into-turn.ensures.stamp)
     c.offer.ensures.offered

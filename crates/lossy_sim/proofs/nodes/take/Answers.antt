@@ -10,8 +10,8 @@ use Rattle.lossy_sim.proofs.Stored.{link_read, few_delivered}
 use Rattle.lossy_sim.proofs.Events.{same_nodes, same_set, works_set, stamp_read, message_made}
 use Rattle.lossy_sim.proofs.nodes.take.Goals as goal
 
-pub take-turn-requires-clause-stamp : goal.take-turn-requires-clause-stamp
-take-turn-requires-clause-stamp c =
+pub take_into-turn-requires-clause-stamp : goal.take_into-turn-requires-clause-stamp
+take_into-turn-requires-clause-stamp c =
     let ns0 = c.args.nodes.now.items in
     let ns1 = set ns0 c.args.node c.room.new.self in
     let len1 : length ns1 ≡ c.args.count = length-set ns0 c.args.node c.room.new.self
@@ -23,8 +23,8 @@ take-turn-requires-clause-stamp c =
     stamp_read c.args.count c.args.node ns0 ns1 c.index_mut-3.result.now len1 bi same1
     c.index_mut-3.ensures.value c.requires.allowed.2
 
-pub take-turn-requires-clause-wire : goal.take-turn-requires-clause-wire
-take-turn-requires-clause-wire c =
+pub take_into-turn-requires-clause-wire : goal.take_into-turn-requires-clause-wire
+take_into-turn-requires-clause-wire c =
     let ls0 = c.args.links.now.items in
     let place = c.args.from * c.args.count + c.args.node in
     let ls1 = set ls0 place c.deliver-wire.new.self in
@@ -62,8 +62,8 @@ returns-clause-works c =
     on_ok c.offer.result (λ (few : HaveOfferedFew 18 (set c.args.links.now.items
     (c.args.from * c.args.count + c.args.node) c.deliver-wire.new.self)
     c.offer.new.links.items c.args.count). works_set c.args.count c.args.node ns0 ns1
-    c.index_mut-3.result.now c.take-turn.new.self len1 bi same1 c.index_mut-3.ensures.value
-    c.take-turn.ensures.work) c.offer.ensures.few
+    c.index_mut-3.result.now c.take_into-turn.new.self len1 bi same1 c.index_mut-3.ensures.value
+    c.take_into-turn.ensures.work) c.offer.ensures.few
 
 pub returns-clause-few : goal.returns-clause-few
 returns-clause-few c =
@@ -98,12 +98,12 @@ returns-clause-event c =
     c.requires.links.len c.requires.allowed.1 c.requires.allowed.0 c.index_mut-2.ensures.value in
     let next = c.deliver-wire.ensures.delivers in
     on_ok c.offer.result (λ (sent : HaveOffered ls1 c.offer.new.links.items
-    c.args.count c.args.node c.take-turn.result.stamp c.take-turn.new.sends.items).
+    c.args.count c.args.node c.take_into-turn.result.stamp c.take_into-turn.new.sends.items).
     message_made c.args.count c.args.node c.args.from ns0 ns1 c.index_mut-3.result.now
-    c.take-turn.new.self ls0 c.offer.new.links.items c.deliver-wire.new.self next.0
-    c.take-turn.result.stamp c.take-turn.new.sends.items c.deliver-wire.result len1
+    c.take_into-turn.new.self ls0 c.offer.new.links.items c.deliver-wire.new.self next.0
+    c.take_into-turn.result.stamp c.take_into-turn.new.sends.items c.deliver-wire.result len1
     c.requires.links.len bi c.requires.allowed.1 same1 c.index_mut-3.ensures.value
     (subst (λ (l : LossyLink). Delivers l.receiver c.deliver-wire.result next.0) at next.1)
     (next.2 ∙ ap (λ (l : LossyLink). record l { receiver = next.0 }) at) sent
-    c.take-turn.ensures.node c.take-turn.ensures.sends c.take-turn.ensures.stamp)
+    c.take_into-turn.ensures.node c.take_into-turn.ensures.sends c.take_into-turn.ensures.stamp)
     c.offer.ensures.offered

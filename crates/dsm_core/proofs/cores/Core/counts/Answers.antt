@@ -17,8 +17,7 @@ loop-node-preserved c =
           ∙ ap (λ z. z + 1) c.loop-node.invariant.len;
       room = subst (λ z. c.nodes-count.result ≤ z) (sym c.push_reserved.ensures.capacity)
           c.loop-node.invariant.room;
-      items = is
-          ∙ ap₂ (λ (xs : List NodeCounts) (x : NodeCounts). xs ++ x ∷ [])
+      items = is ∙ ap₂ (λ (xs : List NodeCounts) (x : NodeCounts). xs ++ x ∷ [])
           c.loop-node.invariant.items
           (c.counts.ensures.value ∙ ap (λ (n : Node). n.counts) c.node.ensures.value)
           ∙ sym (map-range_with_len_more (λ i. (core.nodes i).counts) 0 k k (omega arith));

@@ -18,8 +18,7 @@ invariant_of-result c =
       budget = c.args.work.now.budget;
       nodes = c.in_ok-nodes.nodes.items;
       lists = lists;
-    })) (sym c.in_ok-copy.ensures)
-    (opened (record {
+    })) (sym c.in_ok-copy.ensures) (opened (record {
       program = c.args.work.now.program.now;
       image = c.args.work.now.image.now;
       layout = c.args.work.now.layout.now;

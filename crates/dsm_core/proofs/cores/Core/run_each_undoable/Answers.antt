@@ -8,7 +8,7 @@ use Rattle.dsm_core.proofs.cores.Core.run_each_undoable.Goals as goal
 pub invariant_of-self : goal.invariant_of-self
 invariant_of-self c =
     let p = c.self.inside.parts in
-    let q = c.run_each_undoable.new.self in
-    is_gone p q c.self.invariant c.run_each_undoable.ensures.parts c.run_each_undoable.ensures.work
-    (passed_or_kept c.run_each_undoable.result (work_of p) (λ i. slice_index_or c.args.words.now i 0) (core_of p) (core_of q)
-    c.run_each_undoable.ensures.passed c.run_each_undoable.ensures.kept)
+    let q = c.run_each_by.new.self in
+    is_gone p q c.self.invariant c.run_each_by.ensures.parts c.run_each_by.ensures.work
+    (passed_or_kept c.run_each_by.result (work_of p) (λ i. slice_index_or c.args.words.now i 0) (core_of p) (core_of q)
+    c.run_each_by.ensures.passed c.run_each_by.ensures.kept)

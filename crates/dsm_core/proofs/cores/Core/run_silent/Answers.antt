@@ -7,7 +7,7 @@ use Rattle.dsm_core.proofs.cores.Core.run_silent.Goals as goal
 pub invariant_of-self : goal.invariant_of-self
 invariant_of-self c =
     let p = c.self.inside.parts in
-    let q = c.run_silent.new.self in
-    is_gone p q c.self.invariant c.run_silent.ensures.parts c.run_silent.ensures.work
-    (passed_words_go (work_of p) c.args.node c.run_silent.result (core_of p) (core_of q)
-    c.run_silent.ensures.passed)
+    let q = c.run_by.new.self in
+    is_gone p q c.self.invariant c.run_by.ensures.parts c.run_by.ensures.work
+    (passed_words_go (work_of p) c.args.node c.run_by.result (core_of p) (core_of q)
+    c.run_by.ensures.passed)

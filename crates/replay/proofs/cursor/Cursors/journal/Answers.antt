@@ -19,6 +19,5 @@ returns c =
     record {
       value = c.deref.ensures.value
           ∙ sym (items_at c.as_slice.result.now c.args.node c.index-as_slice-node.result within
-          c.index-as_slice-node.is)
-          ∙ ap (λ l. slice_index_or l c.args.node []) c.as_slice.ensures;
+          c.index-as_slice-node.is) ∙ ap (λ l. slice_index_or l c.args.node []) c.as_slice.ensures;
     }

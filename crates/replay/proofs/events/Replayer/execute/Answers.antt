@@ -33,8 +33,7 @@ broken-requires-clause-left c =
     let i = c.args.node in
     entry_within (cursor_at v i).takes (entries_at v i) c.args.entry
     (drop ((cursor_at v i).takes + 1) (entries_at v i))
-    (entry_kept w v i c.loop-made.made c.args.entry c.loop-made.invariant.followed
-    c.requires.entry)
+    (entry_kept w v i c.loop-made.made c.args.entry c.loop-made.invariant.followed c.requires.entry)
 
 pub returns-then-not-may-clause-refused : goal.returns-then-not-may-clause-refused
 returns-then-not-may-clause-refused c = λ rule j number err.
@@ -47,8 +46,7 @@ returns-then-not-may-clause-refused c = λ rule j number err.
     let P : ReplayRule → ℕ → ℕ → Type 0 =
     λ x y n. IsFirstBroken (work_of a.core) w.rec.now x y n in
     err_same (Unit {0}) P c.broken.result NotThere rule i j ((cursor_at v i).takes + 1) number
-    c.broken.ensures.value err
-    (broken_same a b NotThere i ((cursor_at v i).takes + 1) h.same
+    c.broken.ensures.value err (broken_same a b NotThere i ((cursor_at v i).takes + 1) h.same
     (word_refused b i e h.running (mid_node w v i i (words_after w i k) h.followed c.requires.node)
     (entry_kept w v i k e h.followed c.requires.entry) (omega (arith, within))
     (mid_first w v i k 1 c.args.words h.followed some c.requires.first)

@@ -2,16 +2,14 @@
 use Rattle.std.proofs.Common.{◌∙◌, sym, subst}
 use Rattle.run_order.specs.node_model.Node.{opening_node}
 use Rattle.run_order.specs.node_model.Core.{Exec, May}
-use Rattle.node_machine.specs.word_visits.Visits.{AreCounted}
-use Rattle.node_machine.specs.word_visits.VisitTables.{AreVisitsIn, visits_of}
 use Rattle.dsm_core.specs.CoreParts.{CoreParts, work_of, core_with, core_of, AreParts, HasStampsInRange}
 use Rattle.dsm_core.specs.CoreWords.{HasPassedWords}
 use Rattle.dsm_core.specs.CoreSteps.{CanExecute}
 use Rattle.dsm_core.proofs.CoreRuns.{parts_kept, can_make}
-use Rattle.dsm_core.proofs.parts.Parts.run_visiting.Goals as goal
+use Rattle.dsm_core.proofs.parts.Parts.run_by.Goals as goal
 
-pub run_visiting-requires-clause-allowed : goal.run_visiting-requires-clause-allowed
-run_visiting-requires-clause-allowed c =
+pub run_by-requires-clause-allowed : goal.run_by-requires-clause-allowed
+run_by-requires-clause-allowed g c =
     let p : CoreParts = record {
       program = c.self.inside.program.now;
       image = c.self.inside.image.now;
@@ -28,8 +26,8 @@ run_visiting-requires-clause-allowed c =
     subst (λ z. CanExecute z p.nodes c.args.node) (sym c.nodes-count.ensures.nodes)
     (can_make p (Exec c.args.node) are range may)
 
-pub run_visiting-requires-clause-table : goal.run_visiting-requires-clause-table
-run_visiting-requires-clause-table c =
+pub run_by-requires-clause-goes_over : goal.run_by-requires-clause-goes_over
+run_by-requires-clause-goes_over g c =
     let p : CoreParts = record {
       program = c.self.inside.program.now;
       image = c.self.inside.image.now;
@@ -42,12 +40,12 @@ run_visiting-requires-clause-table c =
     record {
       work = work_of p;
       runs = are.works;
-      table = subst (λ (q : CoreParts). AreVisitsIn (work_of q).image c.args.visits.now) (sym c.self.view_is)
-          c.requires.table;
+      image = subst (λ (q : CoreParts). g.L.WordLoop.goes_over (work_of q).image c.args.by.now) (sym c.self.view_is)
+          c.requires.goes_over;
     }
 
 pub returns-clause-parts : goal.returns-clause-parts
-returns-clause-parts c =
+returns-clause-parts g c =
     let p : CoreParts = record {
       program = c.self.inside.program.now;
       image = c.self.inside.image.now;
@@ -57,11 +55,11 @@ returns-clause-parts c =
       lists = c.self.inside.lists.items;
     } in
     let are = subst AreParts (sym c.self.view_is) c.requires.parts in
-    parts_kept p c.run_visiting.new.nodes.items p.lists are
-    (c.run_visiting.ensures.count ∙ c.nodes-count.ensures.nodes) are.lists c.run_visiting.ensures.works
+    parts_kept p c.run_by.new.nodes.items p.lists are
+    (c.run_by.ensures.count ∙ c.nodes-count.ensures.nodes) are.lists c.run_by.ensures.works
 
 pub returns-clause-passed : goal.returns-clause-passed
-returns-clause-passed c =
+returns-clause-passed g c =
     let p : CoreParts = record {
       program = c.self.inside.program.now;
       image = c.self.inside.image.now;
@@ -71,13 +69,13 @@ returns-clause-passed c =
       lists = c.self.inside.lists.items;
     } in
     let are = subst AreParts (sym c.self.view_is) c.requires.parts in
-    let after = core_with (work_of p) c.run_visiting.new.nodes.items p.lists in
-    subst (λ (q : CoreParts). HasPassedWords (work_of q) c.args.node c.run_visiting.result (core_of q)
+    let after = core_with (work_of p) c.run_by.new.nodes.items p.lists in
+    subst (λ (q : CoreParts). HasPassedWords (work_of q) c.args.node c.run_by.result (core_of q)
     after) c.self.view_is
-    (c.run_visiting.ensures.passed (work_of p) p.lists (sym c.nodes-count.ensures.nodes) are.works)
+    (c.run_by.ensures.passed (work_of p) p.lists (sym c.nodes-count.ensures.nodes) are.works)
 
-pub returns-clause-visits : goal.returns-clause-visits
-returns-clause-visits c =
+pub returns-clause-learns : goal.returns-clause-learns
+returns-clause-learns g c =
     let p : CoreParts = record {
       program = c.self.inside.program.now;
       image = c.self.inside.image.now;
@@ -87,7 +85,7 @@ returns-clause-visits c =
       lists = c.self.inside.lists.items;
     } in
     let are = subst AreParts (sym c.self.view_is) c.requires.parts in
-    subst (λ (q : CoreParts). AreCounted (work_of q) c.run_visiting.result ((core_of q).nodes c.args.node)
-    (visits_of c.args.visits.now) (visits_of c.run_visiting.new.visits)) c.self.view_is
-    (c.run_visiting.ensures.visits (work_of p) (opening_node (work_of p) c.args.node) (sym c.nodes-count.ensures.nodes)
+    subst (λ (q : CoreParts). g.L.WordLoop.learns (work_of q) c.run_by.result ((core_of q).nodes c.args.node)
+    c.args.by.now c.run_by.new.by) c.self.view_is
+    (c.run_by.ensures.learns (work_of p) (opening_node (work_of p) c.args.node) (sym c.nodes-count.ensures.nodes)
     are.works)
