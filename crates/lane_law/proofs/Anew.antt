@@ -1,31 +1,9 @@
 -- A word that waits rests on nothing that was seen before it.
 use Rattle.std.proofs.Common.{◌≡◌, ℕ, ◌*◌, ◌/◌, ◌%◌, Bool, true, false, cond, eqb, List, [], ◌∷◌, ◌++◌, refl, sym, ◌∙◌}
 use Rattle.std.specs.Prelude.{◌&&◌, not, pos}
-use Rattle.rv32_decode.specs.Widths.{width_of, is_aligned}
-use Rattle.rv32_decode.specs.declared.LoadKind.{LoadKind}
+use Rattle.lane_law.proofs.Names.{width_of, is_aligned, LoadKind, Width, Word, signed, Instr, Jal, holds, offset_address, line_of, CallStep, Ends, Returns, Puts, Demand, reg, demand_of, call_step, RtWord, Native, MissR, MissW, Poll, Call, Batch, Xjalr, Prepare, Far, ItemWord, Runs, GoesTo, item_word, is_near, number_of_word, distance, Need, Work, ProcessorState, NodeMemory, Want, WordOutcome, Region, Memory, region_of, load, store, store_if, make_call, native, is_mapped_state, is_readable_state, is_fixed_state, is_writable_state, one_refuses, unmet, batch_by, batch, need_of_run, execute, is_wait}
 use Rattle.rv32_decode.specs.declared.LoadKind.TheVariants.{Word as WordLoad}
-use Rattle.rv32_decode.specs.declared.Width.{Width}
-use Rattle.rv32_decode.specs.declared.Width.TheVariants.{Word}
-use Rattle.rv32_decode.specs.Fields.{signed}
-use Rattle.rv32_decode.specs.declared.Instr.{Instr}
-use Rattle.rv32_decode.specs.declared.Instr.TheVariants.{Jal}
-use Rattle.llsc.specs.Reservation.{holds}
-use Rattle.rv32_program.specs.Targets.{offset_address}
-use Rattle.rv32_program.specs.Program.{line_of}
-use Rattle.rv32_step.specs.declared.CallStep.{CallStep}
-use Rattle.rv32_step.specs.declared.CallStep.TheVariants.{Ends, Returns, Puts}
-use Rattle.rv32_step.specs.declared.Demand.{Demand}
 use Rattle.rv32_step.specs.declared.Demand.TheVariants as demand
-use Rattle.rv32_step.specs.Registers.{reg}
-use Rattle.rv32_step.specs.Demands.{demand_of, call_step}
-use Rattle.runtime_words.specs.declared.RtWord.{RtWord}
-use Rattle.runtime_words.specs.declared.RtWord.TheVariants.{Native, MissR, MissW, Poll, Call, Batch, Xjalr, Prepare, Far, TrapFetch, TrapOff, TrapIllegal, TrapEbreak}
-use Rattle.templates.specs.Sequences.{ItemWord, Runs, GoesTo}
-use Rattle.node_model.specs.jump_map.Image.{item_word, is_near, number_of_word, distance}
-use Rattle.node_model.specs.Node as node
-use Rattle.home_directory.specs.dsm_messages.declared.messages.Need.{Need}
-use Rattle.node_model.specs.Node.{Work, ProcessorState, NodeMemory, Want, WordOutcome, Region, Memory, StateOf, Elsewhere, region_of, load, store, store_if, make_call, native, is_mapped_state, is_readable_state, is_fixed_state, is_writable_state, one_refuses, unmet, batch_by, batch, need_of_run, execute}
-use Rattle.rewriting_law.specs.CoreRun.{is_wait}
 use Rattle.rewriting_law.proofs.templates.Does.{looks_anew}
 
 either_goes : (b : Bool) (x y : WordOutcome) → is_wait x.move ≡ false → is_wait y.move ≡ false
@@ -37,16 +15,12 @@ module _ (work : Work) (l : ProcessorState) (n : NodeMemory) where
   load_goes : (k : LoadKind) (r a : ℕ) (w : Region)
       → is_wait (load work.program l n k r a w).move ≡ false
   load_goes k r a Memory = refl
-  load_goes k r a (StateOf line) = refl
-  load_goes k r a (node.Spill j) = refl
-  load_goes k r a Elsewhere = refl
+  load_goes k r a other = refl
 
   store_goes : (width : Width) (a value : ℕ) (w : Region)
       → is_wait (store work.program l n width a value w).move ≡ false
   store_goes width a value Memory = refl
-  store_goes width a value (StateOf line) = refl
-  store_goes width a value (node.Spill j) = refl
-  store_goes width a value Elsewhere = refl
+  store_goes width a value other = refl
 
   conditional_goes : (r a value : ℕ) (reserved : Bool)
       → is_wait (store_if work.program l n r a value reserved).move ≡ false
@@ -86,11 +60,7 @@ module _ (work : Work) (l : ProcessorState) (n : NodeMemory) where
         let bad : false ≡ true = sym (either_goes (eqb (target % 4) 0) _ _ refl refl) ∙ h in cc
     waits_anew (Batch stores low high) h = refl
     waits_anew (Prepare rs1) h = refl
-    waits_anew (Far k) h = let bad : false ≡ true = h in cc
-    waits_anew TrapFetch h = let bad : false ≡ true = h in cc
-    waits_anew TrapOff h = let bad : false ≡ true = h in cc
-    waits_anew TrapIllegal h = let bad : false ≡ true = h in cc
-    waits_anew TrapEbreak h = let bad : false ≡ true = h in cc
+    waits_anew other h = let bad : false ≡ true = h in cc
 
     jump_goes : (near : Bool) (i : Instr) (k : ℕ)
         → is_wait (execute work.program place at (cond near (Native i) (Far k)) l n).move ≡ false
@@ -164,8 +134,4 @@ module _ (work : Work) (l : ProcessorState) (n : NodeMemory) where
         either_same (is_aligned Word a) _ _ (either_same (is_fixed_state state) _ _ (λ e. refl)
         (either_same (holds n.reservation a && not (is_writable_state state)) _ _ (λ e. refl)
         (λ e. refl))) (λ e. refl)
-    waits_same (Far k) = λ e. refl
-    waits_same TrapFetch = λ e. refl
-    waits_same TrapOff = λ e. refl
-    waits_same TrapIllegal = λ e. refl
-    waits_same TrapEbreak = λ e. refl
+    waits_same other = λ e. refl

@@ -1,14 +1,8 @@
 -- No lane executes more words than its budget.
 use Rattle.std.proofs.Common.{◌≡◌, ℕ, ◌+◌, ◌<◌, ◌≤◌, cond, eqb, Bool, true, false, List, [], ◌∷◌, None, refl, sym, ap, ◌∙◌, subst, arith}
 use Rattle.std.specs.Prelude.{◌&&◌, not}
-use Rattle.home_directory.specs.dsm_messages.declared.messages.Wire.{Wire}
-use Rattle.node_model.specs.Node.{Node, Phase, Running, Resumed, Waiting, Ended, can_execute, word_outcome}
-use Rattle.node_model.specs.Turns.{after_word}
-use Rattle.node_model.specs.Core.{may_execute}
+use Rattle.lane_law.proofs.Names.{Wire, Node, Phase, Running, Resumed, Waiting, Ended, can_execute, word_outcome, after_word, may_execute, LaneWork, LanePart, LaneNode, as_node, node_of, lane_of, LaneTurn, resume_part, resumed, still, part_after, wants_at, have_ended, word_before, word_turn, handled_for, after_message, take_turn, LaneCore, LaneEvent, Exec, Take, IsLaneRun, standing_in, take_first, event_step, after}
 use Rattle.rewriting_law.proofs.progress.Budgets.{stop_less, move_less}
-use Rattle.lane_model.specs.Nodes.{LaneWork, LanePart, LaneNode, as_node, node_of, lane_of}
-use Rattle.lane_model.specs.Turns.{LaneTurn, resume_part, resumed, still, part_after, wants_at, have_ended, word_before, word_turn, handled_for, after_message, take_turn}
-use Rattle.lane_model.specs.Core.{LaneCore, LaneEvent, Exec, Take, IsLaneRun, standing_in, take_first, event_step, after}
 use Rattle.lane_law.proofs.LaneWords.{asks_same}
 use Rattle.lane_law.proofs.LaneClosing.{ending_node}
 
@@ -31,8 +25,7 @@ module _ (w : LaneWork) where
       (record { turn = after_word w.work (as_node x k); again = false })).executed
 
   -- after a message
-  pub take_lane : (x : LaneNode) (j : ℕ) (wire : Wire) (k : ℕ)
-      → (take_turn w x j wire).node.lanes k
+  pub take_lane : (x : LaneNode) (j : ℕ) (wire : Wire) (k : ℕ) → (take_turn w x j wire).node.lanes k
       ≡ resumed w.work (handled_for w x j wire 0).node (x.lanes k)
   take_lane x j wire k =
       let took : LaneTurn = record {
@@ -97,8 +90,7 @@ module _ (w : LaneWork) where
       → can_execute p ≡ true
   may_run_on x k Running e = refl
   may_run_on x k Resumed e = refl
-  may_run_on x k (Waiting resume) e = let bad : false ≡ true = e in cc
-  may_run_on x k (Ended end) e = let bad : false ≡ true = e in cc
+  may_run_on x k other e = let bad : false ≡ true = e in cc
 
   -- a node changes
   changed_within : (c : LaneCore) (i : ℕ) (n : LaneNode) → AllWithin c
@@ -128,8 +120,7 @@ module _ (w : LaneWork) where
       let runs = may_run_on x k (x.lanes k).phase may.0.1 in
       within es (event_step w c (Exec p))
       (changed_within c (node_of w p) (word_turn w x k).node h (λ j.
-      subst Within (sym (word_lane x k j))
-      (either_within (eqb j k) (part_after w x k) (x.lanes j)
+      subst Within (sym (word_lane x k j)) (either_within (eqb j k) (part_after w x k) (x.lanes j)
       (word_within x k (h (node_of w p) k) runs) (h (node_of w p) j)))) may.1
   within (Take i j ∷ es) c h may =
       within es (event_step w c (Take i j)) (take_within c i j (c.list j i) h) may.1

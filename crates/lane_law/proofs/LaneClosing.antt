@@ -3,22 +3,9 @@
 -- shade each event keeps.
 use Rattle.std.proofs.Common.{◌≡◌, ℕ, ◌<◌, ◌⊎◌, cond, eqb, Bool, true, false, List, [], ◌∷◌, Option, Some, None, refl, sym, ap, ◌∙◌, subst, inl, inr}
 use Rattle.std.specs.Prelude.{◌||◌, ◌&&◌, not, is_some}
-use Rattle.block_layout.specs.Layout.{Shape, block_of}
-use Rattle.block_layout.specs.Update.{changed}
-use Rattle.home_directory.specs.dsm_messages.declared.messages.Need.{Need}
-use Rattle.home_directory.specs.dsm_messages.declared.messages.Wire.{Wire}
-use Rattle.node_model.specs.miss_handlers.Rows.{Row, is_bye, row_of, block_in}
-use Rattle.rv32_program.specs.declared.End.TheVariants.{Stopped}
-use Rattle.rv32_program.specs.Program.{line_of}
-use Rattle.rv32_step.specs.OneMemory.{State}
-use Rattle.templates.specs.declared.plans.PlanEntry.{PlanEntry}
-use Rattle.dsm_protocol.specs.Events.{sends_in}
-use Rattle.dsm_protocol.specs.Holds.{NoneIs, is_for_home, wanted}
+use Rattle.lane_law.proofs.Names.{Shape, block_of, changed, Need, Wire, Row, is_bye, row_of, block_in, Stopped, line_of, State, PlanEntry, sends_in, NoneIs, is_for_home, wanted, Node, Want, Phase, Running, Resumed, Waiting, Ended, Turn, after_word, byes_to, by_row_or, holding, is_ended, want_in, Core, wires_to, messages_of, LaneWork, LanePart, LaneNode, as_node, processors, node_of, lane_of, Asked, LaneTurn, ask, ask_all, wants_at, has_ended, have_ended, with_byes, ending, word_before, word_turn, journaled, handled_for, after_message, take_turn, resume_part, resumed, still, LaneCore, LaneEvent, Exec, Take, May, opening_core, with_turn, with_list, take_first, event_step}
 use Rattle.dsm_protocol.proofs.ProtocolSide as world
-use Rattle.node_model.specs.Node.{Node, Want, Phase, Running, Resumed, Waiting, Ended}
-use Rattle.node_model.specs.Turns.{Turn, after_word, byes_to, by_row_or, holding, is_ended, want_in}
-use Rattle.node_model.specs.Core.{Core, wires_to, with_turn as plain_turn}
-use Rattle.rewriting_law.specs.ProtocolLists.{messages_of}
+use Rattle.node_model.specs.Core.{with_turn as plain_turn}
 use Rattle.rewriting_law.proofs.templates.RegisterLemmas.{equal}
 use Rattle.rewriting_law.proofs.one_memory.Sharing.{is_same}
 use Rattle.rewriting_law.proofs.protocol_side.Directory.{world_of}
@@ -28,9 +15,6 @@ use Rattle.rewriting_law.proofs.runs.TurnTies.{rest_at}
 use Rattle.rewriting_law.proofs.progress.Calm.{is_calm, Neither, IsCalm, sent_neither, sends_calm, plainly_calm, calm_popped, calm_then}
 use Rattle.rewriting_law.proofs.progress.Closing.{wants_plain, wants_byes, row_byes, row_sends, handled_by_row}
 use Rattle.rewriting_law.proofs.progress.Farewells.{has_bye, left_or_right, from_left, from_right, no_bye_sent, bye_after, bye_to, Parts, Farewells, farewells_then}
-use Rattle.lane_model.specs.Nodes.{LaneWork, LanePart, LaneNode, as_node, processors, node_of, lane_of}
-use Rattle.lane_model.specs.Turns.{Asked, LaneTurn, ask, ask_all, wants_at, has_ended, have_ended, with_byes, ending, word_before, word_turn, journaled, handled_for, after_message, take_turn, resume_part, resumed, still}
-use Rattle.lane_model.specs.Core.{LaneCore, LaneEvent, Exec, Take, May, opening_core, with_turn, with_list, take_first, event_step}
 use Rattle.lane_law.proofs.LaneCode.{LaneCode}
 use Rattle.lane_law.proofs.LaneNumbers.{lane_low}
 use Rattle.lane_law.proofs.LaneMatching as matching
@@ -133,8 +117,7 @@ module _ (w : LaneWork) where
   -- beside those there are none
   said : (t : LaneTurn) (ends : Bool) (y : ℕ) → NoneIs is_bye t.sends
       → has_bye (wires_to (with_byes nodes t ends).node.shared.stamp y
-      (with_byes nodes t ends).sends) ≡ true
-      → ends ≡ true
+      (with_byes nodes t ends).sends) ≡ true → ends ≡ true
   said t true y plain e = refl
   said t false y plain e =
       let bad : false ≡ true = sym (no_bye_sent t.node.shared.stamp y t.sends plain) ∙ e in cc
@@ -176,8 +159,7 @@ module _ (w : LaneWork) where
     made_node : made.node ≡ t.node
     made_node = ending_node nodes t ends_now
 
-    made_says : (y : ℕ)
-        → has_bye (wires_to made.node.shared.stamp y made.sends) ≡ true
+    made_says : (y : ℕ) → has_bye (wires_to made.node.shared.stamp y made.sends) ≡ true
         → is_ended (phase_by (have_ended w made.node)) ≡ true
     made_says y e =
         ended_by (have_ended w made.node) ∙ ap (have_ended w) made_node
@@ -199,8 +181,7 @@ module _ (w : LaneWork) where
             (ap (λ z. z && not (have_ended w x)) g ∙ ap not f))
 
   -- what is asked for has no Byes
-  ask_plain : (t : Asked) (v : Want) → NoneIs is_bye t.turn.sends
-      → NoneIs is_bye
+  ask_plain : (t : Asked) (v : Want) → NoneIs is_bye t.turn.sends → NoneIs is_bye
       (ask w.work.layout v.need (block_of w.work.layout (line_of v.at)) t).turn.sends
   ask_plain t v h =
       go (block_of w.work.layout (line_of v.at)) (wants_plain w.work.layout (v ∷ []) t.turn h)
@@ -431,8 +412,7 @@ module _ (w : LaneWork) where
             kept = λ y h. ap (λ g. g y) byes ∙ h;
             noted = λ y h. inl (sym (ap (λ g. g y) byes) ∙ h);
             here = λ h. let bad : false ≡ true = sym e ∙ h in cc;
-            now = λ y. ap (λ g. g y) byes
-                ∙ (elim (eqb y j)
+            now = λ y. ap (λ g. g y) byes ∙ (elim (eqb y j)
                 as (λ z. x.shared.byes y ≡ cond z (false || x.shared.byes y) (x.shared.byes y)) [
                   | true ↦ refl
                   | false ↦ refl
@@ -445,8 +425,7 @@ module _ (w : LaneWork) where
                 (none_waits i below h (block_in row.0)) in
                 subst (λ (y : Turn). NoneIs is_for_home y.sends)
                 (sym (is ∙ ap (by_row_or w.work.layout n1) row.1))
-                (subst (NoneIs is_for_home) (sym (row_sends w.work.layout n1 row.0))
-                (row.3 idle));
+                (subst (NoneIs is_for_home) (sym (row_sends w.work.layout n1 row.0)) (row.3 idle));
           }
 
       note : Notes
@@ -479,15 +458,13 @@ module _ (w : LaneWork) where
       popped : (y z : ℕ) → has_bye (c.list y z) ≡ true
           → (has_bye (list y z) ≡ true) ⊎ ((z ≡ i) × (t.node.shared.byes y ≡ true))
       popped y z e = (elim (eqb y j && eqb z i) as (λ b. (eqb y j && eqb z i) ≡ b
-          → (has_bye (cond b ws (c.list y z)) ≡ true)
-          ⊎ ((z ≡ i) × (t.node.shared.byes y ≡ true))) [
+          → (has_bye (cond b ws (c.list y z)) ≡ true) ⊎ ((z ≡ i) × (t.node.shared.byes y ≡ true))) [
             | true ↦ (λ q.
                 let is_y = is_same y j (both_left (eqb y j) (eqb z i) q) in
                 let is_z = is_same z i (both_right (eqb y j) (eqb z i) q) in
                 let at : c.list y z ≡ wire ∷ ws =
                 ap (λ k. c.list k z) is_y ∙ ap (c.list j) is_z ∙ front in
-                elim (left_or_right (is_bye wire.message) (has_bye ws)
-                (sym (ap has_bye at) ∙ e)) [
+                elim (left_or_right (is_bye wire.message) (has_bye ws) (sym (ap has_bye at) ∙ e)) [
                   | inl g ↦ inr (
                     is_z,
                     ap (λ h. h y) byes_then ∙ ap t1.node.byes is_y ∙ note.here g,
@@ -519,8 +496,7 @@ module _ (w : LaneWork) where
           (cond (b && true) ws (c.list y i)) ≡ true
       own_popped y ly true q =
           subst (λ z. is_calm (is_bye wire.message || x.shared.byes z) ws ≡ true)
-          (sym (is_same y j q))
-          (calm_popped (x.shared.byes j) (is_bye wire.message) wire ws refl
+          (sym (is_same y j q)) (calm_popped (x.shared.byes j) (is_bye wire.message) wire ws refl
           (sym (ap (is_calm (x.shared.byes j)) front) ∙ f.calm.lists j i lj below))
       own_popped y ly false q = f.calm.lists y i ly below
 

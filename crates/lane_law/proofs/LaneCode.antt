@@ -2,18 +2,7 @@
 -- whatever its pace, and stays there while the others of its node go on.
 use Rattle.std.proofs.Common.{◌≡◌, ℕ, ◌+◌, ◌⊎◌, Bool, true, false, List, ◌∷◌, length, None, refl, sym, ap, ◌∙◌, subst, inl, inr, arith}
 use Rattle.std.specs.Prelude.{option_and_then, unwrap_or, IsSome}
-use Rattle.block_layout.specs.Layout.{Shape}
-use Rattle.rv32_program.specs.declared.Exit.TheVariants.{Fetch}
-use Rattle.rv32_program.specs.Program.{IsAccepted}
-use Rattle.rv32_step.specs.Registers.{registers_of, first_values}
-use Rattle.rv32_step.specs.OneMemory.{Original, Processor, first_processor, request}
-use Rattle.templates.specs.declared.commits.CommitKind.{CommitKind}
-use Rattle.templates.specs.declared.plans.PlanEntry.{PlanEntry}
-use Rattle.templates.specs.Commits.{commit_at}
-use Rattle.node_model.specs.jump_map.Image.{IsRewriting, head_of}
-use Rattle.node_model.specs.jump_map.Maps.{old_of, fetch}
-use Rattle.node_model.specs.Node.{Work, ProcessorState, NodeMemory, Move, Next, Again, To, Enters, Waits, Leaves, WordOutcome, exit_by, execute, execute_at, next_outcome, lane_after, first_lane, takes_messages}
-use Rattle.rewriting_law.specs.CoreRun.{is_wait, commits_by}
+use Rattle.lane_law.proofs.Names.{Shape, Fetch, IsAccepted, registers_of, first_values, Original, Processor, first_processor, request, CommitKind, PlanEntry, commit_at, IsRewriting, head_of, old_of, fetch, Work, ProcessorState, NodeMemory, Move, Waits, Leaves, WordOutcome, exit_by, execute, execute_at, next_outcome, lane_after, first_lane, takes_messages, is_wait, commits_by}
 use Rattle.rewriting_law.proofs.templates.States.{Suits, Later}
 use Rattle.rewriting_law.proofs.templates.Does.{does_later}
 use Rattle.rewriting_law.proofs.words.Plans.{split_at}
@@ -35,8 +24,7 @@ module _ (layout : Shape) (work : Work) (processors : ℕ) (plan : List PlanEntr
 
   -- a processor's lane at the start
   abbrev pub lane_first : ℕ → ProcessorState
-  lane_first p =
-      record (first_lane work p) { registers = registers_of (first_values p processors) }
+  lane_first p = record (first_lane work p) { registers = registers_of (first_values p processors) }
 
   pub record LaneCode : Type 1 where
     -- the node stands, by its lane and by what its words see, where its processor does
@@ -93,10 +81,7 @@ module _ (layout : Shape) (work : Work) (processors : ℕ) (plan : List PlanEntr
                 weaken q _ m (w.resumed m suited x among granted);
           },
         )
-    follows_weaker q n r kind Next h = goes_weaker q n r (commits_by kind r) h
-    follows_weaker q n r kind Again h = goes_weaker q n r (commits_by kind r) h
-    follows_weaker q n r kind (To target) h = goes_weaker q n r (commits_by kind r) h
-    follows_weaker q n r kind (Enters target) h = goes_weaker q n r (commits_by kind r) h
+    follows_weaker q n r kind other h = goes_weaker q n r (commits_by kind r) h
 
 module _ (layout : Shape) (work : Work) (processors : ℕ) (plan : List PlanEntry)
     (accepted : IsAccepted work.program) (rewriting : IsRewriting work.program plan work.image)
@@ -159,8 +144,7 @@ module _ (layout : Shape) (work : Work) (processors : ℕ) (plan : List PlanEntr
       split = st.split;
       at = st.at;
       does = does_later work.program (kind_of work.program st.in_batch st.entry.entry) st.place
-          (length st.before)
-          (word_address work.program st.entry
+          (length st.before) (word_address work.program st.entry
           (number work.program st.in_batch st.entry.entry (length st.before)))
           (st.item ∷ st.after) 0 q l n m later st.does;
     })
@@ -188,8 +172,7 @@ module _ (layout : Shape) (work : Work) (processors : ℕ) (plan : List PlanEntr
         waits_there in
         subst (λ k. StandsOrOff q k m)
         (sym (ap (λ (r : WordOutcome). r.lane) (sym does)
-        ∙ waits_same work l n here at word waits_there))
-        (inl (record {
+        ∙ waits_same work l n here at word waits_there)) (inl (record {
           place = st.place;
           entry = st.entry;
           in_batch = st.in_batch;
@@ -222,10 +205,8 @@ module _ (layout : Shape) (work : Work) (processors : ℕ) (plan : List PlanEntr
       let words = length (placed_batch program f.entry) in
       let first : words ≡ words + 0 = omega arith in
       let at : l.at ≡ address_of program plan work.image accepted rewriting f false 0 =
-      ap (λ o. unwrap_or o 0)
-      (new_of_place program plan work.image rewriting program.entry f
-      (some_items f.entry (program.code f.entry.address)))
-      ∙ ap (word_address program f) first in
+      ap (λ o. unwrap_or o 0) (new_of_place program plan work.image rewriting program.entry f
+      (some_items f.entry (program.code f.entry.address))) ∙ ap (word_address program f) first in
       without_pace at_ease q l n
       (single_paced program plan work.image accepted rewriting program.entry at_ease q l n f at
       (record {

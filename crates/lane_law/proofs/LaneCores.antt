@@ -1,18 +1,7 @@
 -- A core of nodes of several processors beside the one memory: what holds between two events, and
 -- what a node's turn leaves of it.
 use Rattle.std.proofs.Common.{◌≡◌, ℕ, ◌<◌, ◌⊎◌, cond, eqb, Bool, true, false, List, ◌∷◌, ◌++◌, Option, refl, sym, ap, ◌∙◌, subst, Some}
-use Rattle.block_layout.specs.Layout.{Shape}
-use Rattle.block_layout.specs.Update.{changed}
-use Rattle.home_directory.specs.dsm_messages.declared.messages.Need.{Need}
-use Rattle.home_directory.specs.declared.wait.Wait.{Wait}
-use Rattle.rv32_program.specs.declared.End.{End}
-use Rattle.rv32_program.specs.declared.End.TheVariants.{Exited, Stopped}
-use Rattle.rv32_step.specs.OneMemory.{Original, State}
-use Rattle.templates.specs.declared.plans.PlanEntry.{PlanEntry}
-use Rattle.dsm_protocol.specs.Holds.{wanted}
-use Rattle.node_model.specs.declared.NodeCounts.{NodeCounts}
-use Rattle.node_model.specs.Node.{Work, ProcessorState, NodeMemory, Running, Resumed, Waiting, Ended}
-use Rattle.node_model.specs.Turns.{Turn, byes_to}
+use Rattle.lane_law.proofs.Names.{Shape, changed, Need, Wait, End, Exited, Stopped, Original, State, PlanEntry, wanted, NodeCounts, Work, ProcessorState, NodeMemory, Running, Resumed, Waiting, Ended, Turn, byes_to, LaneWork, LanePart, LaneNode, local_of, processors, node_of, lane_of, processor_of, LaneTurn, blocks_of, with_byes, LaneCore, with_turn}
 use Rattle.rewriting_law.proofs.templates.RegisterLemmas.{equal, apart}
 use Rattle.rewriting_law.proofs.one_memory.Sharing.{IsReadable, with_local, is_same}
 use Rattle.rewriting_law.proofs.one_memory.Messages.{AreLaidOut}
@@ -22,12 +11,9 @@ use Rattle.rewriting_law.proofs.protocol_side.Directory.{Rest, directory}
 use Rattle.rewriting_law.proofs.protocol_side.DirectorySide.{Layout, Held, laid_out, directory_side}
 use Rattle.rewriting_law.proofs.runs.TurnTies.{rest_at, IsTurn}
 use Rattle.rewriting_law.proofs.runs.Behind.{held_like, counting, byes_behind}
-use Rattle.lane_model.specs.Nodes.{LaneWork, LanePart, LaneNode, local_of, processors, node_of, lane_of, processor_of}
-use Rattle.lane_model.specs.Turns.{LaneTurn, blocks_of, with_byes}
-use Rattle.lane_model.specs.Core.{LaneCore, with_turn}
 use Rattle.lane_law.proofs.LaneCode.{LaneCode}
 use Rattle.lane_law.proofs.LaneNumbers.{placed, same_processor}
-use Rattle.lane_law.proofs.LaneSharing.{original, seen}
+use Rattle.rewriting_law.proofs.one_memory.SharedWords.{original, seen}
 use Rattle.lane_law.proofs.LaneWants.{IsCovered}
 use Rattle.lane_law.proofs.LaneMatching.{Doing, Runs, Awaits, HasEnded, Matches, StandsIn, IsHeld, again_in}
 use Rattle.lane_law.proofs.LaneTies.{view, lane_turn, turned_node, rest_then}
@@ -82,8 +68,7 @@ module _ (w : LaneWork) (plan : List PlanEntry) (lay : Layout w.work) (some : 0 
   abbrev pub IsPart : Doing → LanePart → Type 0
   IsPart Runs x = (x.phase ≡ Running) ⊎ (x.phase ≡ Resumed)
   IsPart (Awaits resume want more again) x =
-      (x.phase ≡ Waiting resume) × (x.awaits ≡ blocks_of layout (want ∷ more))
-      × (x.again ≡ again)
+      (x.phase ≡ Waiting resume) × (x.awaits ≡ blocks_of layout (want ∷ more)) × (x.again ≡ again)
   IsPart (HasEnded end) x = (x.phase ≡ Ended end) × HasSpent end x.executed
 
   abbrev pub MatchesHere : (ℕ → ProcessorState) → (ℕ → Doing) → (ℕ → NodeMemory) → (ℕ → Option ℕ) → Rest
@@ -187,8 +172,7 @@ module _ (w : LaneWork) (plan : List PlanEntry) (lay : Layout w.work) (some : 0 
         ≡ (with_local (locals_in c.nodes) i u.local x).state))
     parts_after t lanes reserved holder counts printed v h same x =
         let n = node_then c i k t lanes reserved holder counts printed in
-        (elim (eqb x i)
-        as (λ z. ((local_of (cond z n (c.nodes x)).shared 0).copy
+        (elim (eqb x i) as (λ z. ((local_of (cond z n (c.nodes x)).shared 0).copy
         ≡ (cond z u.local (locals_in c.nodes x)).copy)
         × ((local_of (cond z n (c.nodes x)).shared 0).state
         ≡ (cond z u.local (locals_in c.nodes x)).state)) [
@@ -232,8 +216,7 @@ module _ (w : LaneWork) (plan : List PlanEntry) (lay : Layout w.work) (some : 0 
               (side.like l.locals ls u.rest s.shared (λ x. sym (copies x)) (λ x. sym (states x))
               l.matches.shares.held)))
               (λ x b. ap (λ (f : ℕ → Option Wait). wanted (f b)) (turned.wait x)
-              ∙ ap wanted (waits x b))
-              l.holders;
+              ∙ ap wanted (waits x b)) l.holders;
         }
 
     -- and with its Byes
@@ -266,8 +249,7 @@ module _ (w : LaneWork) (plan : List PlanEntry) (lay : Layout w.work) (some : 0 
     -- what is kept by lane, where lane k's is another
     pub by_lane : {A : Type 0} (field : LaneNode → ℕ → A) (value : A) (others : ℕ → A)
         → ((j : ℕ) → field n j ≡ cond (eqb j (lane_of w p)) value (others j)) → (q : ℕ)
-        → field (changed nodes (node_of w p) n (node_of w q)) (lane_of w q)
-        ≡ cond (eqb q p) value
+        → field (changed nodes (node_of w p) n (node_of w q)) (lane_of w q) ≡ cond (eqb q p) value
         (cond (eqb (node_of w q) (node_of w p)) (others (lane_of w q))
         (field (nodes (node_of w q)) (lane_of w q)))
     by_lane field value others is q = go (eqb (node_of w q) (node_of w p)) refl
@@ -275,17 +257,13 @@ module _ (w : LaneWork) (plan : List PlanEntry) (lay : Layout w.work) (some : 0 
         old : LaneNode
         old = nodes (node_of w q)
 
-        not_there : (node_of w q ≡ node_of w p → lane_of w q ≡ lane_of w p → ⊥)
-            → eqb q p ≡ false
-        not_there h =
-            apart q p (λ e. h (ap (node_of w) e) (ap (lane_of w) e))
+        not_there : (node_of w q ≡ node_of w p → lane_of w q ≡ lane_of w p → ⊥) → eqb q p ≡ false
+        not_there h = apart q p (λ e. h (ap (node_of w) e) (ap (lane_of w) e))
 
-        go : (z : Bool) → eqb (node_of w q) (node_of w p) ≡ z
-            → field (cond z n old) (lane_of w q)
+        go : (z : Bool) → eqb (node_of w q) (node_of w p) ≡ z → field (cond z n old) (lane_of w q)
             ≡ cond (eqb q p) value (cond z (others (lane_of w q)) (field old (lane_of w q)))
         go false e =
-            ap (λ t. cond t value (field old (lane_of w q)))
-            (sym (not_there (λ at lane.
+            ap (λ t. cond t value (field old (lane_of w q))) (sym (not_there (λ at lane.
             let bad : false ≡ true = sym e ∙ equal (node_of w q) (node_of w p) at in cc)))
         go true e = is (lane_of w q) ∙ within (eqb (lane_of w q) (lane_of w p)) refl
           where
@@ -293,13 +271,11 @@ module _ (w : LaneWork) (plan : List PlanEntry) (lay : Layout w.work) (some : 0 
             at = is_same (node_of w q) (node_of w p) e
 
             within : (y : Bool) → eqb (lane_of w q) (lane_of w p) ≡ y
-                → cond y value (others (lane_of w q))
-                ≡ cond (eqb q p) value (others (lane_of w q))
+                → cond y value (others (lane_of w q)) ≡ cond (eqb q p) value (others (lane_of w q))
             within true f =
                 ap (λ t. cond t value (others (lane_of w q)))
                 (sym (equal q p (same_processor w some q p at
                 (is_same (lane_of w q) (lane_of w p) f))))
             within false f =
-                ap (λ t. cond t value (others (lane_of w q)))
-                (sym (not_there (λ at lane.
+                ap (λ t. cond t value (others (lane_of w q))) (sym (not_there (λ at lane.
                 let bad : false ≡ true = sym f ∙ equal (lane_of w q) (lane_of w p) lane in cc)))

@@ -1,9 +1,6 @@
 -- The directory protocol gives what nodes of several processors need of it.
 use Rattle.std.proofs.Common.{ℕ, ◌<◌, Bool, List, sym, ◌∙◌}
-use Rattle.block_layout.specs.Layout.{Shape}
-use Rattle.templates.specs.declared.plans.PlanEntry.{PlanEntry}
-use Rattle.node_model.specs.Node.{Work}
-use Rattle.dsm_protocol.specs.Abstraction.{most_waits}
+use Rattle.lane_law.proofs.Names.{Shape, PlanEntry, Work, most_waits}
 use Rattle.rewriting_law.proofs.protocol_side.ProtocolSide.{Protocol, ProtocolSide}
 use Rattle.rewriting_law.proofs.one_memory.Messages.{AreLaidOut}
 use Rattle.lane_law.proofs.LaneCode.{LaneCode}

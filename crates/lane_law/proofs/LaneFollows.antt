@@ -1,16 +1,8 @@
 -- The law of nodes of several processors, from the code's side and the directory protocol's.
 use Rattle.std.proofs.Common.{◌≡◌, ◌*◌, List, sym, ap, ◌∙◌, inl, inr, arith, ◌<◌, ◌≤◌, length}
-use Rattle.block_layout.specs.Layout.{block_of}
-use Rattle.rv32_program.specs.declared.End.TheVariants.{Exited, Stopped}
-use Rattle.rv32_program.specs.Program.{line_of}
-use Rattle.rv32_step.specs.OneMemory.{Processor, opening}
-use Rattle.templates.specs.declared.plans.PlanEntry.{PlanEntry}
-use Rattle.node_model.specs.Node.{ProcessorState, NodeMemory, Phase, Running, Resumed, Waiting, Ended, is_readable_state, is_writable_state}
+use Rattle.lane_law.proofs.Names.{block_of, Exited, Stopped, line_of, Processor, opening, PlanEntry, ProcessorState, NodeMemory, Phase, Running, Resumed, Waiting, Ended, is_readable_state, is_writable_state, LaneWork, LanePart, processors, node_of, LaneCore, LaneEvent, IsLaneRun, opening_core, after, RunsOnLanes, AllLicensed, Interleaves, IsCoherent, SameReservations, StopsAtBudget, GoesOn, AreAllOver, AreEmpty, HaveRows, most_lane_events, original_by_lane, original_after}
 use Rattle.rewriting_law.proofs.protocol_side.DirectorySide.{Layout, laid_out, coherent as nodes_coherent, alone, flagged}
 use Rattle.rewriting_law.proofs.runs.TurnTies.{rest_at}
-use Rattle.lane_model.specs.Nodes.{LaneWork, LanePart, processors, node_of}
-use Rattle.lane_model.specs.Core.{LaneCore, LaneEvent, IsLaneRun, opening_core, after}
-use Rattle.lane_law.specs.Law.{RunsOnLanes, AllLicensed, Interleaves, IsCoherent, SameReservations, StopsAtBudget, GoesOn, AreAllOver, AreEmpty, HaveRows, most_lane_events, original_by_lane, original_after}
 use Rattle.lane_law.proofs.LaneCode.{LaneCode, lane_code}
 use Rattle.lane_law.proofs.LaneMatching.{Doing, Runs, Awaits, HasEnded, StandsIn}
 use Rattle.lane_law.proofs.LaneTies.{view}

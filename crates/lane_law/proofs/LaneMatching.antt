@@ -1,24 +1,10 @@
 -- Nodes of several processors that run code and exchange messages, beside the one memory: what holds
 -- between two events, and that each event keeps it.
-use Rattle.std.proofs.Common.{◌≡◌, ℕ, ◌<◌, cond, eqb, ltb, Bool, true, false, List, [], ◌∷◌, length, ◌+◌, ◌*◌, ◌≤◌, Option, Some, None, refl, sym, ap, ◌∙◌, subst, inl, inr, arith, append-nil}
+use Rattle.std.proofs.Common.{◌≡◌, ℕ, ◌<◌, cond, eqb, ltb, Bool, true, false, List, [], ◌∷◌, length, ◌+◌, ◌*◌, ◌≤◌, Option, Some, None, refl, sym, ap, ◌∙◌, subst, inl, inr, arith}
 use Rattle.std.specs.Prelude.{if◌then◌else◌, ◌==◌, ◌||◌, ◌&&◌, not, is_some}
 use Rattle.std.specs.Option.{option_to_list}
 use Rattle.std.proofs.lemmas.Bool.Decides.{nat_tests}
-use Rattle.llsc.specs.Reservation.{holds}
-use Rattle.block_layout.specs.Layout.{Shape}
-use Rattle.rv32_program.specs.declared.End.{End}
-use Rattle.rv32_program.specs.declared.End.TheVariants.{Exited, Stopped}
-use Rattle.rv32_step.specs.OneMemory.{Original, Processor, State, Pick, Step, step, value_read, run}
-use Rattle.templates.specs.declared.commits.CommitKind.{CommitKind}
-use Rattle.templates.specs.declared.plans.PlanEntry.{PlanEntry}
-use Rattle.templates.specs.Commits.{commit_at}
-use Rattle.node_model.specs.jump_map.Maps.{old_of}
-use Rattle.home_directory.specs.Home.{count_of}
-use Rattle.home_directory.specs.dsm_messages.declared.messages.Need.{Need}
-use Rattle.node_model.specs.Node.{Work, ProcessorState, NodeMemory, Want, Move, Next, Again, To, Enters, Waits, Leaves, Resume, WordOutcome, lane_after, next_outcome, is_readable_state, is_writable_state}
-use Rattle.node_model.specs.Turns.{wants_of, each_block_once}
-use Rattle.rewriting_law.specs.CoreRun.{is_exit, is_wait, commits_by}
-use Rattle.rewriting_law.specs.Licence.{Licensed}
+use Rattle.lane_law.proofs.Names.{holds, Shape, End, Exited, Stopped, Original, Access, Nothing, Reads, Writes, WritesIf, Exchanges, Processor, State, run, CommitKind, PlanEntry, commit_at, old_of, count_of, Need, Work, ProcessorState, NodeMemory, Want, Move, Waits, Leaves, Resume, WordOutcome, lane_after, next_outcome, is_readable_state, is_writable_state, wants_of, each_block_once, is_exit, is_wait, commits_by, Licensed, lost}
 use Rattle.rewriting_law.proofs.templates.RegisterLemmas.{equal}
 use Rattle.rewriting_law.proofs.templates.States.{Suits, Later}
 use Rattle.rewriting_law.proofs.words.CodeSide.{AllWanted, Follows}
@@ -27,9 +13,8 @@ use Rattle.rewriting_law.proofs.one_memory.Sharing.{Sharing, with_local, is_same
 use Rattle.rewriting_law.proofs.one_memory.Messages.{AreLaidOut}
 use Rattle.rewriting_law.proofs.one_memory.Pending.{wanted_in, StandsWaiting, waits_standing}
 use Rattle.rewriting_law.proofs.protocol_side.ProtocolSide.{Protocol, ProtocolSide, sharing_by}
-use Rattle.lane_model.specs.Turns.{lost}
 use Rattle.lane_law.proofs.LaneCode.{LaneCode}
-use Rattle.lane_law.proofs.LaneSharing.{original, seen, Shares, reserved_after, lost_left, Onward, Worded, Advances, word_advances}
+use Rattle.rewriting_law.proofs.one_memory.SharedWords.{ended, ended_left, picked, values_of_word, original, seen, Shares, reserved_after, Onward, WordAdvanced, word_advanced}
 use Rattle.lane_law.proofs.LaneWaits.{gather, gathered, gather_room}
 use Rattle.lane_law.proofs.LaneWants.{AreWaits, Asked, IsCovered, WantsMore, want_all, AllAsked, all_asked}
 
@@ -48,6 +33,15 @@ pub left_held : (o o' : Option ℕ) → ((y : ℕ) → o' ≡ Some y → o ≡ S
     → holds o' x ≡ true → holds o x ≡ true
 left_held o None left x h = let bad : false ≡ true = h in cc
 left_held o (Some y) left x h = ap (λ z. holds z x) (left y refl) ∙ h
+
+-- what another's access leaves of a reservation
+pub lost_ends : (layout : Shape) (x : Access) (o : Option ℕ) → lost layout x o ≡ ended layout x o
+lost_ends layout Nothing o = refl
+lost_ends layout (Reads k a value) o = refl
+lost_ends layout (Writes w a value) o = refl
+lost_ends layout (WritesIf a value true) o = refl
+lost_ends layout (WritesIf a value false) o = refl
+lost_ends layout (Exchanges a old new) o = refl
 
 module _ (layout : Shape) (work : Work) (processors : ℕ) (node_of : ℕ → ℕ)
     (placed : (p : ℕ) → p < processors → node_of p < work.layout.nodes) (plan : List PlanEntry)
@@ -84,8 +78,7 @@ module _ (layout : Shape) (work : Work) (processors : ℕ) (node_of : ℕ → �
 
   -- processor h of node i holds the wait of the node for the block
   abbrev pub IsHeld : (ℕ → Doing) → (i b : ℕ) → Need → ℕ → Type 0
-  IsHeld doing i b need h =
-      (h < processors) × (node_of h ≡ i) × (wait_in (doing h) b ≡ Some need)
+  IsHeld doing i b need h = (h < processors) × (node_of h ≡ i) × (wait_in (doing h) b ≡ Some need)
 
   pub record Matches (lanes : ℕ → ProcessorState) (doing : ℕ → Doing) (locals : ℕ → NodeMemory)
       (reserved : ℕ → Option ℕ) (rest : protocol.Rest) (holder : ℕ → ℕ → ℕ) (s : State)
@@ -103,8 +96,7 @@ module _ (layout : Shape) (work : Work) (processors : ℕ) (node_of : ℕ → �
 
   -- a processor that has executed so many words, with nothing pending
   abbrev pub goes_or_stops : ℕ → Doing
-  goes_or_stops executed =
-      if executed == work.budget then HasEnded (Stopped work.budget) else Runs
+  goes_or_stops executed = if executed == work.budget then HasEnded (Stopped work.budget) else Runs
 
   pub stands_or_stops : (executed : ℕ) (q : Processor) (l : ProcessorState) (n : NodeMemory) → q.exit ≡ None
       → code.Stands q l n → StandsIn (goes_or_stops executed) q l n
@@ -183,69 +175,24 @@ module _ (layout : Shape) (work : Work) (processors : ℕ) (node_of : ℕ → �
     abbrev orig : Original
     orig = original layout work processors node_of placed
 
-    abbrev picked : Bool → List Pick
-    picked b = cond b (Step p ∷ []) []
-
-    abbrev values_of_word : Bool → ℕ → List ℕ
-    values_of_word b j = cond (eqb j p) (cond b (option_to_list (value_read r.access)) []) []
-
-    abbrev WordedTo : State → Type 0
-    WordedTo t = Worded layout work processors node_of placed plan code.Stands (sharing_at rest)
-        locals reserved s m.shares p below here.0 r t
-
     abbrev OnwardBy : Processor → Move → Type 0
-    OnwardBy x mv = Onward layout work processors node_of placed plan code.Stands (sharing_at rest)
-        locals reserved s m.shares p below here.0 r x mv
+    OnwardBy x mv = Onward layout work processors node_of placed plan code.Stands (lost layout)
+        (lost_ends layout) (sharing_at rest) locals reserved s m.shares p below here.0 r x mv
 
-    pub record WordAdvanced (b : Bool) : Type 0 where
-      pub advanced : Advanced orig s (picked b) (values_of_word b) (option_to_list r.printed)
-      pub behind : WordedTo (run orig s (picked b))
-      pub licensed : b ≡ true → Licensed n r.access
-
-    word_advanced : (b : Bool)
-        → Advances layout work processors node_of placed plan code.Stands (sharing_at rest) locals
-        reserved s m.shares p below here.0 r b
-        → WordAdvanced b
-    word_advanced true a =
-        let st = step orig s p in
-        record {
-          advanced = record {
-            allowed = ((below, here.0), tt);
-            same_values = λ j.
-                append-nil (cond (eqb j p) (option_to_list (value_read st.access)) [])
-                ∙ ap (λ x. cond (eqb j p) (option_to_list (value_read x)) []) (sym a.0.access);
-            output = a.0.worded.output;
-          };
-          behind = a.0.worded;
-          licensed = λ e. a.1;
-        }
-    word_advanced false a = record {
-      advanced = record {
-        allowed = tt;
-        same_values = λ j. (elim (eqb j p) as (λ u. ◌≡◌ {A = List ℕ} [] (cond u [] [])) [
-          | true ↦ refl
-          | false ↦ refl
-        ]);
-        output = a.0.output;
-      };
-      behind = a.0;
-      licensed = λ e. let bad : false ≡ true = e in cc;
-    }
-
-    pub word : WordAdvanced commits
-    word = word_advanced commits
-        (word_advances layout work processors node_of placed plan code.Stands (sharing_at rest)
-        locals reserved s m.shares p below here.0 r kind
-        (code.word_follows q l n suits here.0 here.1))
+    pub word : WordAdvanced layout work processors node_of placed plan code.Stands (lost layout)
+        (lost_ends layout) (sharing_at rest) locals reserved s m.shares p below here.0 r commits
+    word = word_advanced layout work processors node_of placed plan code.Stands (lost layout)
+        (lost_ends layout) (sharing_at rest) locals reserved s m.shares p below here.0 r kind
+        (code.word_follows q l n suits here.0 here.1)
 
     abbrev pub behind_word : State
-    behind_word = run orig s (picked commits)
+    behind_word = run orig s (picked p commits)
 
     abbrev locals1 : ℕ → NodeMemory
     locals1 = with_local locals ours r.local
 
     abbrev reserved1 : ℕ → Option ℕ
-    reserved1 = reserved_after layout work processors node_of placed reserved p r
+    reserved1 = reserved_after layout work processors node_of placed (lost layout) reserved p r
 
     abbrev pub asked : Asked layout work processors node_of placed plan protocol
     asked = want_all layout work processors node_of placed plan protocol locals1 rest ours
@@ -276,13 +223,8 @@ module _ (layout : Shape) (work : Work) (processors : ℕ) (node_of : ℕ → �
         reserved1 behind_word ours there x qs are room word.behind.shared
         (each_block_once layout (want ∷ ws))
         (subst (λ (y : NodeMemory). AllWanted layout work plan x y (each_block_once layout (want ∷ ws)))
-        (sym h.1.local ∙ sym (local_here locals ours r.local)) h.1.wanted)
-        h.1.few
-    sought x (Leaves e) h = nothing_sought x
-    sought x Next h = nothing_sought x
-    sought x Again h = nothing_sought x
-    sought x (To target) h = nothing_sought x
-    sought x (Enters target) h = nothing_sought x
+        (sym h.1.local ∙ sym (local_here locals ours r.local)) h.1.wanted) h.1.few
+    sought x other h = nothing_sought x
 
     abbrev pub d : Doing
     d = doing_after executed asked.again r.move
@@ -300,8 +242,7 @@ module _ (layout : Shape) (work : Work) (processors : ℕ) (node_of : ℕ → �
         (subst (λ mv. code.Stands x (lane_after work.image r.lane mv) (sees_after [])) is
         (subst (code.Stands x (lane_after work.image r.lane r.move))
         (ap (λ (y : NodeMemory). record y { reservation = r.local.reservation })
-        (sym (local_here locals ours r.local)
-        ∙ sym (local_here locals1 ours (locals1 ours)))) h.1))
+        (sym (local_here locals ours r.local) ∙ sym (local_here locals1 ours (locals1 ours)))) h.1))
 
     stands_after : (x : Processor) (again : Bool) (mv : Move) → r.move ≡ mv → OnwardBy x mv
         → (is_wait mv ≡ true → (k : NodeMemory) → code.Stands x r.lane k)
@@ -314,40 +255,29 @@ module _ (layout : Shape) (work : Work) (processors : ℕ) (node_of : ℕ → �
       anew refl,
       h.1.few,
     )
-    stands_after x again Next is h anew = goes_there x Next is h
-    stands_after x again Again is h anew = goes_there x Again is h
-    stands_after x again (To target) is h anew = goes_there x (To target) is h
-    stands_after x again (Enters target) is h anew = goes_there x (Enters target) is h
+    stands_after x again other is h anew = goes_there x other is h
 
     -- a word that waits commits nothing, and its processor is as it was
     uncommitted : (mv : Move) → r.move ≡ mv → is_wait mv ≡ true
         → Follows layout work plan code.Stands q n r kind mv → commits ≡ false
     uncommitted (Waits resume want ws) is waits h =
         ap (λ v. is_exit v || commits_by kind r) is ∙ h.0
-    uncommitted (Leaves e) is waits h = let bad : false ≡ true = waits in cc
-    uncommitted Next is waits h = let bad : false ≡ true = waits in cc
-    uncommitted Again is waits h = let bad : false ≡ true = waits in cc
-    uncommitted (To target) is waits h = let bad : false ≡ true = waits in cc
-    uncommitted (Enters target) is waits h = let bad : false ≡ true = waits in cc
+    uncommitted other is waits h = let bad : false ≡ true = waits in cc
 
     stands_anew : is_wait r.move ≡ true → (k : NodeMemory)
         → code.Stands (behind_word.processors p) r.lane k
     stands_anew waits k =
         let still : behind_word ≡ s =
-        ap (λ u. run orig s (picked u)) (uncommitted r.move refl waits
+        ap (λ u. run orig s (picked p u)) (uncommitted r.move refl waits
         (code.word_follows q l n suits here.0 here.1)) in
         subst (λ (t : State). code.Stands (t.processors p) r.lane k) (sym still)
         (code.anew q l n k here.1 waits)
 
-    waits_after : (again : Bool) (mv : Move) (c : ℕ)
-        → wait_in (doing_after executed again mv) c
+    waits_after : (again : Bool) (mv : Move) (c : ℕ) → wait_in (doing_after executed again mv) c
         ≡ wanted_in layout c (each_block_once layout (wants_of mv))
     waits_after again (Leaves e) c = refl
     waits_after again (Waits resume want ws) c = refl
-    waits_after again Next c = no_wait executed c
-    waits_after again Again c = no_wait executed c
-    waits_after again (To target) c = no_wait executed c
-    waits_after again (Enters target) c = no_wait executed c
+    waits_after again other c = no_wait executed c
 
     nothing_wanted : (b : ℕ) (need : Need) → wait_in (goes_or_stops executed) b ≡ Some need → ⊥
     nothing_wanted b need h = let bad : None ≡ Some need = sym (no_wait executed b) ∙ h in cc
@@ -357,10 +287,7 @@ module _ (layout : Shape) (work : Work) (processors : ℕ) (node_of : ℕ → �
         → again_in (doing_after executed again mv) ≡ again
     again_after again (Leaves e) b need h = let bad : None ≡ Some need = h in cc
     again_after again (Waits resume want ws) b need h = refl
-    again_after again Next b need h = absurd (nothing_wanted b need h)
-    again_after again Again b need h = absurd (nothing_wanted b need h)
-    again_after again (To target) b need h = absurd (nothing_wanted b need h)
-    again_after again (Enters target) b need h = absurd (nothing_wanted b need h)
+    again_after again other b need h = absurd (nothing_wanted b need h)
 
     a : AskedBy (behind_word.processors p) (each_block_once layout (wants_of r.move))
     a = sought (behind_word.processors p) r.move word.behind.onward
@@ -377,7 +304,8 @@ module _ (layout : Shape) (work : Work) (processors : ℕ) (node_of : ℕ → �
       writes = λ line h. ap (λ (k : NodeMemory). is_writable_state (k.state line)) to
           ∙ a.writes line (ap (λ (u : ℕ → ℕ). is_writable_state (u line)) from ∙ h);
       reserved = λ x h. left_held (reserved j) (reserved1 j) (λ y e.
-          lost_left layout r.access (reserved j) y (sym now ∙ e)) x h;
+          ended_left layout r.access (reserved j) y
+          (sym (lost_ends layout r.access (reserved j)) ∙ sym now ∙ e)) x h;
     }
       where
         to : with_local locals1 ours asked.handled.local (node_of j) ≡ asked.handled.local
@@ -395,8 +323,7 @@ module _ (layout : Shape) (work : Work) (processors : ℕ) (node_of : ℕ → �
     stands_on : (j : ℕ) → eqb j p ≡ false → (u : Bool) → eqb (node_of j) ours ≡ u → (a : Doing)
         → StandsIn a (s.processors j) (lanes j) (sees locals reserved j)
         → StandsIn a (s.processors j) (lanes j) (sees locals2 reserved1 j)
-    stands_on j other u e Runs h =
-        (h.0, by u e)
+    stands_on j other u e Runs h = (h.0, by u e)
       where
         by : (u : Bool) → eqb (node_of j) ours ≡ u
             → code.Stands (s.processors j) (lanes j) (sees locals2 reserved1 j)
@@ -407,8 +334,7 @@ module _ (layout : Shape) (work : Work) (processors : ℕ) (node_of : ℕ → �
             (sym (ap (λ t. record (cond t asked.handled.local (cond t r.local (locals (node_of j)))) {
               reservation = cond (eqb j p) r.local.reservation
                   (cond t (lost layout r.access (reserved j)) (reserved j));
-            }) e
-            ∙ ap (λ t. record (locals (node_of j)) {
+            }) e ∙ ap (λ t. record (locals (node_of j)) {
               reservation = cond t r.local.reservation (reserved j);
             }) other)) h.1
     stands_on j other u e (Awaits resume want ws again) h = h
@@ -446,8 +372,7 @@ module _ (layout : Shape) (work : Work) (processors : ℕ) (node_of : ℕ → �
         old was =
             subst (IsHeld doing2 i b need)
             (sym (ap (λ t. cond (eqb i ours && not t) p (holder i b)) (ap is_some was)
-            ∙ either (eqb i ours)))
-            (holds_on i b (holder i b) need (m.held i b need low was))
+            ∙ either (eqb i ours))) (holds_on i b (holder i b) need (m.held i b need low was))
           where
             either : (u : Bool) → cond (u && not true) p (holder i b) ≡ holder i b
             either true = refl
@@ -459,8 +384,7 @@ module _ (layout : Shape) (work : Work) (processors : ℕ) (node_of : ℕ → �
         mine same was wants =
             subst (IsHeld doing2 i b need)
             (sym (ap (λ t. cond (t && not (is_some (protocol.wait rest i b))) p (holder i b))
-            (equal i ours same)
-            ∙ ap (λ t. cond (not t) p (holder i b)) (ap is_some was))) (
+            (equal i ours same) ∙ ap (λ t. cond (not t) p (holder i b)) (ap is_some was))) (
               below,
               sym same,
               ap (λ t. wait_in (cond t d (doing p)) b) (equal p p refl)
@@ -483,8 +407,7 @@ module _ (layout : Shape) (work : Work) (processors : ℕ) (node_of : ℕ → �
     covered_kept (Some have) o' need again keeps h =
         subst (λ z. IsCovered z need again) (sym (keeps have refl)) h
 
-    covered_after : (j b : ℕ) (need : Need) → j < processors
-        → wait_in (doing2 j) b ≡ Some need
+    covered_after : (j b : ℕ) (need : Need) → j < processors → wait_in (doing2 j) b ≡ Some need
         → IsCovered (protocol.wait rest2 (node_of j) b) need (again_in (doing2 j))
     covered_after j b need low = go (eqb j p) refl
       where
@@ -494,8 +417,7 @@ module _ (layout : Shape) (work : Work) (processors : ℕ) (node_of : ℕ → �
             subst (IsCovered (protocol.wait rest2 (node_of j) b) need)
             (sym (again_after asked.again r.move b need h))
             (subst (λ k. IsCovered (protocol.wait rest2 (node_of k) b) need asked.again)
-            (sym (is_same j p e))
-            (a.covered b need (sym (waits_after asked.again r.move b) ∙ h)))
+            (sym (is_same j p e)) (a.covered b need (sym (waits_after asked.again r.move b) ∙ h)))
         go false e h =
             covered_kept (protocol.wait rest (node_of j) b) (protocol.wait rest2 (node_of j) b) need
             (again_in (doing j)) (keeps (eqb (node_of j) ours) refl) (m.covered j b need low h)
@@ -511,7 +433,7 @@ module _ (layout : Shape) (work : Work) (processors : ℕ) (node_of : ℕ → �
 
     -- what an executed word leaves
     pub record Executed : Type 0 where
-      pub advanced : Advanced orig s (picked commits) (values_of_word commits)
+      pub advanced : Advanced orig s (picked p commits) (values_of_word p r commits)
           (option_to_list r.printed)
       pub behind : Matches (with_at lanes p (lane_after work.image r.lane r.move)) doing2 locals2
           reserved1 rest2 holder2 behind_word
@@ -525,12 +447,10 @@ module _ (layout : Shape) (work : Work) (processors : ℕ) (node_of : ℕ → �
         shares = a.shares;
         stands = λ j low. (elim (eqb j p) as (λ u. eqb j p ≡ u
             → StandsIn (cond u d (doing j)) (behind_word.processors j)
-            (cond u (lane_after work.image r.lane r.move) (lanes j))
-            (sees locals2 reserved1 j)) [
+            (cond u (lane_after work.image r.lane r.move) (lanes j)) (sees locals2 reserved1 j)) [
               | true ↦ (λ e. subst (λ k. StandsIn d (behind_word.processors k)
                   (lane_after work.image r.lane r.move) (sees locals2 reserved1 k))
-                  (sym (is_same j p e))
-                  (subst (StandsIn d (behind_word.processors p)
+                  (sym (is_same j p e)) (subst (StandsIn d (behind_word.processors p)
                   (lane_after work.image r.lane r.move)) (sym own_sees)
                   (stands_after (behind_word.processors p) asked.again r.move refl
                   word.behind.onward stands_anew)))
@@ -552,8 +472,7 @@ module _ (layout : Shape) (work : Work) (processors : ℕ) (node_of : ℕ → �
 
   wanted_by : (a : Doing) (b : ℕ) → wanted_in layout b (wants_in a) ≡ wait_in a b
   wanted_by Runs b = refl
-  wanted_by (Awaits resume want more again) b = refl
-  wanted_by (HasEnded e) b = refl
+  wanted_by other b = refl
 
   -- so many processors at most are at a node, and a node may wait for two blocks for each
   module _ (most lanes : ℕ) (room : 2 * lanes ≤ most)
@@ -578,8 +497,7 @@ module _ (layout : Shape) (work : Work) (processors : ℕ) (node_of : ℕ → �
         by (Awaits resume want more again) h = h.2
         by (HasEnded e) h = omega arith
 
-        go : (u : Bool) → ltb j processors ≡ u
-            → length (cond u (wants_in (doing j)) []) ≤ 2
+        go : (u : Bool) → ltb j processors ≡ u → length (cond u (wants_in (doing j)) []) ≤ 2
         go true e = by (doing j) (m.stands j (grind (arith, nat_tests)))
         go false e = omega arith
 

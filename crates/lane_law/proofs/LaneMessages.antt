@@ -3,20 +3,12 @@
 use Rattle.std.proofs.Common.{◌≡◌, ℕ, zero, suc, ◌<◌, ◌≤◌, ◌⊎◌, cond, eqb, ltb, Bool, true, false, List, [], ◌∷◌, ◌++◌, Option, Some, None, refl, sym, ap, ◌∙◌, subst, inl, inr, arith, append-nil}
 use Rattle.std.specs.Prelude.{if◌then◌else◌, ◌==◌}
 use Rattle.std.proofs.lemmas.Bool.Decides.{eqb_tells, nat_tests}
-use Rattle.llsc.specs.Reservation.{cleared}
-use Rattle.block_layout.specs.Layout.{Shape, block_of, has_line}
-use Rattle.rv32_program.specs.declared.Class.TheVariants.{Shared}
-use Rattle.rv32_program.specs.Program.{line_of}
-use Rattle.rv32_step.specs.Breaks.{stands_at_store, RunsToStore}
-use Rattle.rv32_step.specs.Reservations.{with_reservation}
-use Rattle.rv32_step.specs.OneMemory.{Processor, State, Pick, Break, run}
-use Rattle.node_model.specs.Node.{Work, NodeMemory, is_readable_state}
-use Rattle.rewriting_law.specs.CoreRun.{Order, break_by}
+use Rattle.lane_law.proofs.Names.{cleared, Shape, block_of, has_line, Shared, line_of, stands_at_store, RunsToStore, with_reservation, Processor, State, Pick, Break, run, Work, NodeMemory, is_readable_state, Order, break_by}
 use Rattle.rewriting_law.proofs.templates.RegisterLemmas.{equal, apart}
 use Rattle.rewriting_law.proofs.one_memory.Advances.{Advanced, run_append, join_advanced}
 use Rattle.rewriting_law.proofs.one_memory.Messages.{cleared_by}
 use Rattle.rewriting_law.proofs.one_memory.Sharing.{Sharing, with_local, is_same}
-use Rattle.lane_law.proofs.LaneSharing.{original, Shares}
+use Rattle.rewriting_law.proofs.one_memory.SharedWords.{original, Shares}
 
 -- what is left of a reservation was there, and lies in no block that is given up
 pub cleared_left : (layout : Shape) (order : Option Order) (o : Option ℕ) (a : ℕ)
@@ -81,8 +73,7 @@ module _ (layout : Shape) (work : Work) (processors : ℕ) (node_of : ℕ → �
       (order : Option Order) (took : Took sharing' locals s i n order) where
     -- the state once the first processors' reservations are broken
     abbrev broken_to : ℕ → ℕ → Option ℕ
-    broken_to p j =
-        cond (ltb j p) (reserved_then reserved i order j) (s.reservations j)
+    broken_to p j = cond (ltb j p) (reserved_then reserved i order j) (s.reservations j)
 
     pub record Broken (p : ℕ) (ks : List Pick) : Type 0 where
       pub advanced : Advanced (original layout work processors node_of placed) s ks (λ p. []) []
@@ -107,8 +98,7 @@ module _ (layout : Shape) (work : Work) (processors : ℕ) (node_of : ℕ → �
         | inl e ↦ (let no : ltb j p ≡ false = grind (arith, nat_tests) in
             let yes : ltb j (suc p) ≡ true = grind (arith, nat_tests) in
             ap (λ t. cond t (reserved_then reserved i order j) (s.reservations j)) no
-            ∙ sym (shares.reservations j below)
-            ∙ ap reserved e.1 ∙ sym same
+            ∙ sym (shares.reservations j below) ∙ ap reserved e.1 ∙ sym same
             ∙ ap (reserved_then reserved i order) (sym e.1)
             ∙ sym (ap (λ t. cond t (reserved_then reserved i order j) (s.reservations j)) yes))
         | inr e ↦ ap (λ t. cond t (reserved_then reserved i order j) (s.reservations j))
@@ -119,8 +109,7 @@ module _ (layout : Shape) (work : Work) (processors : ℕ) (node_of : ℕ → �
     -- one more is broken
     break_next : (p : ℕ) (ks : List Pick) → p < processors → Broken p ks → eqb (node_of p) i ≡ true
         → (a : ℕ) (x : Order) → reserved p ≡ Some a → order ≡ Some x
-        → has_line layout x.block (line_of a) ≡ true
-        → reserved_then reserved i order p ≡ None
+        → has_line layout x.block (line_of a) ≡ true → reserved_then reserved i order p ≡ None
         → Broken (suc p) (ks ++ Break p x.requester ∷ [])
     break_next p ks low h ours a x has is within gone =
         let o = original layout work processors node_of placed in
@@ -145,8 +134,7 @@ module _ (layout : Shape) (work : Work) (processors : ℕ) (node_of : ℕ → �
                   record {
                     other = other;
                     among = (low, (took.among x is).0);
-                    runs = ap (λ (f : ℕ → Processor). (f x.requester).exit) h.same
-                        ∙ took.runs x is;
+                    runs = ap (λ (f : ℕ → Processor). (f x.requester).exit) h.same ∙ took.runs x is;
                     reserved = a;
                     has = here;
                     block = x.block;

@@ -3,10 +3,8 @@ use Rattle.std.proofs.Common.{◌≡◌, ℕ, zero, suc, ◌+◌, ◌-◌, ◌*�
 use Rattle.std.specs.Prelude.{◌==◌}
 use Rattle.std.proofs.Math.Nat.{div-lt_iff_lt-mul, mod-lt, mod-add-div', mul-add-div_right, mul-add-mod_self_right, div-eq_of_lt, mod-eq_of_lt, lt-div-mul-add, div-mul-le_self, mul-le-mul_right}
 use Rattle.std.proofs.lemmas.Bool.Decides.{nat_tests}
-use Rattle.home_directory.specs.Home.{count_of}
-use Rattle.dsm_protocol.specs.Abstraction.{most_waits}
+use Rattle.lane_law.proofs.Names.{count_of, most_waits, LaneWork, processors, node_of, lane_of, processor_of}
 use Rattle.rewriting_law.proofs.one_memory.Sharing.{is_same}
-use Rattle.lane_model.specs.Nodes.{LaneWork, processors, node_of, lane_of, processor_of}
 
 -- a set of numbers that lie within m of one another has m at most
 module _ (set : ℕ → Bool) (a m : ℕ) (within : (j : ℕ) → set j ≡ true → (a ≤ j) × (j < a + m))

@@ -2,30 +2,17 @@
 use Rattle.std.proofs.Common.{◌≡◌, ℕ, zero, suc, ◌<◌, ◌≤◌, cond, Bool, true, false, List, [], ◌∷◌, Option, Some, None, refl, sym, ap, ◌∙◌, subst, inl, inr, append-nil, arith}
 use Rattle.std.specs.Prelude.{not, ◌&&◌, ◌||◌, option_and_then}
 use Rattle.std.proofs.lemmas.Bool.Decides.{eqb_tells, nat_tests}
-use Rattle.home_directory.specs.dsm_messages.declared.messages.Wire.{Wire}
-use Rattle.rv32_program.specs.declared.Exit.{Exit}
-use Rattle.rv32_program.specs.declared.End.TheVariants.{Exited, Stopped}
-use Rattle.rv32_step.specs.OneMemory.{Processor, State, opening, run}
-use Rattle.templates.specs.declared.plans.PlanEntry.{PlanEntry}
-use Rattle.node_model.specs.jump_map.Maps.{fetch}
+use Rattle.lane_law.proofs.Names.{Wire, Exit, Exited, Stopped, Processor, State, opening, run, PlanEntry, fetch, ProcessorState, NodeMemory, takes_messages, may_execute, may_take, messages_of, EndsAs, LaneWork, LanePart, LaneNode, processors, node_of, lane_of, all_lanes, some_lane, LaneCore, LaneEvent, Exec, Take, May, IsLaneRun, opening_core, event_step, after, take_first, standing_in, lane_lets, lowers_first, printed_at, printed_by, picks_at, picks_of, picks_of_take, values_at, values_of, IsLicensed, AllLicensed, phase_of}
 use Rattle.node_model.specs.declared.Standing.TheVariants as standing
-use Rattle.node_model.specs.Node.{ProcessorState, NodeMemory, takes_messages}
-use Rattle.node_model.specs.Core.{may_execute, may_take}
-use Rattle.rewriting_law.specs.ProtocolLists.{messages_of}
-use Rattle.rewriting_law.specs.Interleaving.{EndsAs}
 use Rattle.rewriting_law.proofs.templates.States.{Suits}
 use Rattle.rewriting_law.proofs.one_memory.Advances.{FollowsTo, run_append, join}
 use Rattle.rewriting_law.proofs.protocol_side.Spending.{Counts, no_counts}
 use Rattle.rewriting_law.proofs.protocol_side.DirectorySide.{Layout, lowers_first as lowers_message}
 use Rattle.rewriting_law.proofs.protocol_side.Start.{opens}
 use Rattle.rewriting_law.proofs.runs.TurnTies.{rest_at}
-use Rattle.lane_model.specs.Nodes.{LaneWork, LanePart, LaneNode, processors, node_of, lane_of, all_lanes, some_lane}
-use Rattle.lane_model.specs.Core.{LaneCore, LaneEvent, Exec, Take, May, IsLaneRun, opening_core, event_step, after, take_first, standing_in, lane_lets, lowers_first, printed_at, printed_by}
-use Rattle.lane_law.specs.Picks.{picks_at, picks_of, picks_of_take, values_at, values_of}
-use Rattle.lane_law.specs.Law.{IsLicensed, AllLicensed, phase_of}
 use Rattle.lane_law.proofs.LaneCode.{LaneCode, lane_first}
 use Rattle.lane_law.proofs.LaneNumbers.{numbered, lane_low}
-use Rattle.lane_law.proofs.LaneSharing.{seen}
+use Rattle.rewriting_law.proofs.one_memory.SharedWords.{seen}
 use Rattle.lane_law.proofs.LaneMatching.{Doing, Runs, Awaits, HasEnded, StandsIn}
 use Rattle.lane_law.proofs.LaneTies.{view}
 use Rattle.lane_law.proofs.LaneCores.{part_in, lanes_in, reserved_in, locals_in, at_node, protocol, side, laid, one, IsPart, MatchesCore}
@@ -43,8 +30,7 @@ all_hold holds (suc n) h =
 -- what holds of all the first lanes holds of each
 pub all_let : (holds : ℕ → Bool) (n k : ℕ) → k < n → all_lanes holds n ≡ true → holds k ≡ true
 all_let holds zero k low e = absurd (omega (arith, low))
-all_let holds (suc n) k low e =
-    go (holds n) refl e (λ less rest. all_let holds n k less rest)
+all_let holds (suc n) k low e = go (holds n) refl e (λ less rest. all_let holds n k less rest)
   where
     go : (z : Bool) → holds n ≡ z → (z && all_lanes holds n) ≡ true
         → (k < n → all_lanes holds n ≡ true → holds k ≡ true) → holds k ≡ true
@@ -74,9 +60,7 @@ module _ (w : LaneWork) (plan : List PlanEntry) (lay : Layout w.work) (some : 0 
   pub may_run : (x : LaneNode) (k : ℕ) (a : Doing) (y : LanePart) → IsPartHere a y
       → may_execute (standing_in w x k y.phase) ≡ true → a ≡ Runs
   may_run x k Runs y h e = refl
-  may_run x k (Awaits resume want more again) y h e =
-      let bad : false ≡ true = sym (ap (λ ph. may_execute (standing_in w x k ph)) h.0) ∙ e in cc
-  may_run x k (HasEnded end) y h e =
+  may_run x k other y h e =
       let bad : false ≡ true = sym (ap (λ ph. may_execute (standing_in w x k ph)) h.0) ∙ e in cc
 
   may_take_there : (x : LaneNode) (k : ℕ) (a : Doing) → IsPartHere a (x.lanes k)
@@ -98,8 +82,7 @@ module _ (w : LaneWork) (plan : List PlanEntry) (lay : Layout w.work) (some : 0 
   lowers_same (v ∷ vs) = refl
 
   -- where something is taken away each lane lets it
-  each_lets : (x : LaneNode) (ws : List Wire)
-      → (some_lane (lane_lets w x) w.lanes
+  each_lets : (x : LaneNode) (ws : List Wire) → (some_lane (lane_lets w x) w.lanes
       && (not (lowers_first ws) || all_lanes (lane_lets w x) w.lanes)) ≡ true
       → lowers_first ws ≡ true → (k : ℕ) → k < w.lanes → lane_lets w x k ≡ true
   each_lets x ws e lowers k low =
@@ -118,8 +101,7 @@ module _ (w : LaneWork) (plan : List PlanEntry) (lay : Layout w.work) (some : 0 
     pub event_leads : (c : LaneCore) (s : State) (m : MatchesCore w plan lay some code c s)
         (e : LaneEvent) → May w c e
         → LeadsTo w plan lay some code s (picks_at w plan c e) (λ p. values_at w plan p c e)
-        (printed_at w c e) (CountsBy c e m.counts) (event_step w c e)
-        × IsLicensed w plan c e
+        (printed_at w c e) (CountsBy c e m.counts) (event_step w c e) × IsLicensed w plan c e
     event_leads c s m (Exec p) may =
         word_leads w plan lay some code four few c s m p may.0
         (may_run (c.nodes (node_of w p)) (lane_of w p) (m.doing p) (part_in w c.nodes p)
@@ -137,8 +119,7 @@ module _ (w : LaneWork) (plan : List PlanEntry) (lay : Layout w.work) (some : 0 
 
         go : (xs : List Wire) → c.list j i ≡ xs
             → LeadsTo w plan lay some code s (picks_of_take w c i j (c.list j i)) (λ p. []) []
-            (CountsBy c (Take i j) m.counts) (take_first w c i j (c.list j i))
-            × Unit {0}
+            (CountsBy c (Take i j) m.counts) (take_first w c i j (c.list j i)) × Unit {0}
         go [] e = absurd (may.2 e)
         go (wire ∷ ws) e =
             (take_leads w plan lay some code c s m i j may.0 may.1 wire ws e lets, tt)

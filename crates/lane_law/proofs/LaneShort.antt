@@ -2,16 +2,9 @@
 -- messages no more than the words' wants allow, and its Byes one from each node to each.
 use Rattle.std.proofs.Common.{◌≡◌, ◌≢◌, ℕ, zero, suc, ◌+◌, ◌*◌, ◌<◌, ◌≤◌, cond, eqb, Bool, true, false, List, [], ◌∷◌, length, None, refl, sym, ap, ◌∙◌, subst, inl, inr, arith}
 use Rattle.std.specs.Prelude.{not, ◌&&◌}
-use Rattle.block_layout.specs.Update.{changed}
-use Rattle.home_directory.specs.dsm_messages.declared.messages.Wire.{Wire}
-use Rattle.home_directory.specs.Home.{count_of}
-use Rattle.node_model.specs.miss_handlers.Rows.{is_bye, row_of}
-use Rattle.rv32_step.specs.OneMemory.{State, opening, run}
-use Rattle.templates.specs.declared.plans.PlanEntry.{PlanEntry}
+use Rattle.lane_law.proofs.Names.{changed, Wire, count_of, is_bye, row_of, State, opening, run, PlanEntry, Node, Turn, after_word, holding, LaneWork, LanePart, LaneNode, as_node, processors, node_of, lane_of, LaneTurn, part_after, wants_at, have_ended, word_before, word_turn, journaled, handled_for, after_message, take_turn, LaneCore, LaneEvent, Exec, Take, May, IsLaneRun, opening_core, take_first, event_step, after, picks_at, most_lane_events}
 use Rattle.dsm_protocol.proofs.Counting.{count_one}
 use Rattle.dsm_protocol.proofs.Promised.{proper}
-use Rattle.node_model.specs.Node.{Node}
-use Rattle.node_model.specs.Turns.{Turn, after_word, holding}
 use Rattle.rewriting_law.proofs.templates.RegisterLemmas.{equal, apart as unlike}
 use Rattle.rewriting_law.proofs.one_memory.Sharing.{is_same}
 use Rattle.rewriting_law.proofs.protocol_side.Spending.{Counts, no_counts, total, total_one, few_taken}
@@ -21,11 +14,6 @@ use Rattle.rewriting_law.proofs.progress.Closing.{row_byes, handled_by_row}
 use Rattle.rewriting_law.proofs.progress.Short.{scaled, bye_ahead}
 use Rattle.rewriting_law.proofs.progress.Calm.{is_calm}
 use Rattle.rewriting_law.proofs.progress.Stuck.{count_most}
-use Rattle.lane_model.specs.Nodes.{LaneWork, LanePart, LaneNode, as_node, processors, node_of, lane_of}
-use Rattle.lane_model.specs.Turns.{LaneTurn, part_after, wants_at, have_ended, word_before, word_turn, journaled, handled_for, after_message, take_turn}
-use Rattle.lane_model.specs.Core.{LaneCore, LaneEvent, Exec, Take, May, IsLaneRun, opening_core, take_first, event_step, after}
-use Rattle.lane_law.specs.Picks.{picks_at}
-use Rattle.lane_law.specs.Law.{most_lane_events}
 use Rattle.lane_law.proofs.LaneCode.{LaneCode}
 use Rattle.lane_law.proofs.LaneCores.{part_in, one, MatchesCore, by_lane}
 use Rattle.lane_law.proofs.LaneRuns.{CountsBy, event_leads, start_matches, start_counts}
@@ -87,15 +75,13 @@ module _ (w : LaneWork) (plan : List PlanEntry) (lay : Layout w.work) (some : 0 
     abbrev then_ : LaneCore
     then_ = event_step w c (Exec p)
 
-    value_same : (z : Bool) (a b : LanePart)
-        → (cond z a b).executed ≡ cond z a.executed b.executed
+    value_same : (z : Bool) (a b : LanePart) → (cond z a b).executed ≡ cond z a.executed b.executed
     value_same true a b = refl
     value_same false a b = refl
 
     executed_then : (q : ℕ) → executed_by then_ q
         ≡ cond (eqb q p) (part_after w y (lane_of w p)).executed
-        (cond (eqb (node_of w q) (node_of w p)) (y.lanes (lane_of w q)).executed
-        (executed_by c q))
+        (cond (eqb (node_of w q) (node_of w p)) (y.lanes (lane_of w q)).executed (executed_by c q))
     executed_then q =
         by_lane w plan lay some code c.nodes p (word_turn w y (lane_of w p)).node
         (λ n k. (n.lanes k).executed) (part_after w y (lane_of w p)).executed
@@ -112,14 +98,11 @@ module _ (w : LaneWork) (plan : List PlanEntry) (lay : Layout w.work) (some : 0 
 
     word_words : words_of then_ ≡ words_of c + 1
     word_words =
-        one_more (executed_by c) (executed_by then_) p 1 (processors w) below
-        (executed_then p
+        one_more (executed_by c) (executed_by then_) p 1 (processors w) below (executed_then p
         ∙ ap (λ z. cond z (part_after w y (lane_of w p)).executed
         (cond (eqb (node_of w p) (node_of w p)) (y.lanes (lane_of w p)).executed
-        (executed_by c p))) (equal p p refl)
-        ∙ word_executed w y (lane_of w p))
-        (λ q other. executed_then q
-        ∙ ap (λ z. cond z (part_after w y (lane_of w p)).executed
+        (executed_by c p))) (equal p p refl) ∙ word_executed w y (lane_of w p))
+        (λ q other. executed_then q ∙ ap (λ z. cond z (part_after w y (lane_of w p)).executed
         (cond (eqb (node_of w q) (node_of w p)) (y.lanes (lane_of w q)).executed
         (executed_by c q))) (unlike q p other)
         ∙ there_same q (eqb (node_of w q) (node_of w p)) refl)
@@ -197,8 +180,7 @@ module _ (w : LaneWork) (plan : List PlanEntry) (lay : Layout w.work) (some : 0 
         (ending_node nodes took (have_ended w took.node && not (have_ended w x)))
 
     -- the message is a Bye more, or none
-    bye_or_not : (b : Bool) → is_bye wire.message ≡ b
-        → byes_at turn.node ≡ byes_at x + cond b 1 0
+    bye_or_not : (b : Bool) → is_bye wire.message ≡ b → byes_at turn.node ≡ byes_at x + cond b 1 0
     bye_or_not true bye =
         let old : x.shared.byes j ≡ false = bye_ahead (x.shared.byes j) wire ws bye
         (sym (ap (is_calm (x.shared.byes j)) front) ∙ f.calm.lists j i lj below) in
@@ -282,8 +264,7 @@ module _ (w : LaneWork) (plan : List PlanEntry) (lay : Layout w.work) (some : 0 
         subst (Behind (after w d es))
         (let same : made + 1 + length es ≡ made + suc (length es) = omega arith in same)
         (after_run es d (run (one w plan lay some code) s (picks_at w plan c e)) leads.behind
-        (made + 1)
-        (short_event c s m f e may.0 m.counts leads.behind.counts made h leads.counted)
+        (made + 1) (short_event c s m f e may.0 m.counts leads.behind.counts made h leads.counted)
         (event_closing w plan lay some code c s m f e may.0) may.1)
 
     start_short : IsShort (opening_core w) no_counts 0

@@ -3,22 +3,9 @@
 use Rattle.std.proofs.Common.{◌≡◌, ◌≢◌, ℕ, zero, suc, ◌<◌, ◌≤◌, ◌⊎◌, cond, eqb, Bool, true, false, List, [], ◌∷◌, Option, Some, None, refl, sym, ap, ◌∙◌, subst, inl, inr, arith}
 use Rattle.std.specs.Prelude.{not, ◌&&◌, ◌||◌}
 use Rattle.std.specs.Option.{option_map_or}
-use Rattle.block_layout.specs.Layout.{blocks}
-use Rattle.home_directory.specs.dsm_messages.declared.messages.Need.{Need}
-use Rattle.home_directory.specs.declared.wait.Wait.{Wait}
-use Rattle.home_directory.specs.Home.{count_of}
-use Rattle.rv32_program.specs.declared.End.{End}
-use Rattle.rv32_program.specs.Program.{line_of}
-use Rattle.rv32_step.specs.Breaks.{is_in_block}
-use Rattle.rv32_step.specs.OneMemory.{State, opening, run}
-use Rattle.templates.specs.declared.plans.PlanEntry.{PlanEntry}
-use Rattle.dsm_protocol.specs.Holds.{wanted, has_message}
+use Rattle.lane_law.proofs.Names.{blocks, Need, Wait, count_of, End, line_of, is_in_block, State, opening, run, PlanEntry, wanted, has_message, Resume, Phase, Running, Resumed, Waiting, Ended, is_at_poll, has_all_byes, is_ended, may_execute, may_take, messages_of, LaneWork, LaneNode, as_node, processors, node_of, lane_of, processor_of, all_lanes, some_lane, has_ended, have_ended, LaneCore, LaneEvent, Exec, Take, May, IsLaneRun, opening_core, event_step, after, standing_in, standing_of, lane_lets, lowers_first, is_over, picks_at, GoesOn, AreAllOver, AreEmpty, HaveRows}
 use Rattle.dsm_protocol.proofs.ProtocolSide as world
 use Rattle.node_model.specs.declared.Standing.TheVariants as standing
-use Rattle.node_model.specs.Node.{Resume, Phase, Running, Resumed, Waiting, Ended, is_at_poll, has_all_byes}
-use Rattle.node_model.specs.Turns.{is_ended}
-use Rattle.node_model.specs.Core.{may_execute, may_take}
-use Rattle.rewriting_law.specs.ProtocolLists.{messages_of}
 use Rattle.rewriting_law.proofs.templates.RegisterLemmas.{equal}
 use Rattle.rewriting_law.proofs.one_memory.Pending.{wanted_in}
 use Rattle.rewriting_law.proofs.protocol_side.Directory.{world_of}
@@ -28,14 +15,9 @@ use Rattle.rewriting_law.proofs.one_memory.Sharing.{is_same}
 use Rattle.rewriting_law.proofs.progress.Calm.{is_calm, none_left}
 use Rattle.rewriting_law.proofs.progress.Farewells.{has_bye}
 use Rattle.rewriting_law.proofs.progress.Stuck.{search, count_all, count_full}
-use Rattle.lane_model.specs.Nodes.{LaneWork, LaneNode, as_node, processors, node_of, lane_of, processor_of, all_lanes, some_lane}
-use Rattle.lane_model.specs.Turns.{has_ended, have_ended}
-use Rattle.lane_model.specs.Core.{LaneCore, LaneEvent, Exec, Take, May, IsLaneRun, opening_core, event_step, after, standing_in, standing_of, lane_lets, lowers_first, is_over}
-use Rattle.lane_law.specs.Picks.{picks_at}
-use Rattle.lane_law.specs.Law.{GoesOn, AreAllOver, AreEmpty, HaveRows}
 use Rattle.lane_law.proofs.LaneCode.{LaneCode}
 use Rattle.lane_law.proofs.LaneNumbers.{node_numbered, lane_numbered, numbered_low}
-use Rattle.lane_law.proofs.LaneSharing.{seen}
+use Rattle.rewriting_law.proofs.one_memory.SharedWords.{seen}
 use Rattle.lane_law.proofs.LaneWants.{IsCovered}
 use Rattle.lane_law.proofs.LaneMatching as matching
 use Rattle.lane_law.proofs.LaneMatching.{Doing, Runs, Awaits, HasEnded, StandsIn}
@@ -69,8 +51,7 @@ module _ (w : LaneWork) (plan : List PlanEntry) (lay : Layout w.work) (some : 0 
   abbrev nodes : ℕ
   nodes = w.work.layout.nodes
 
-  at_poll_or_not : (poll : Bool)
-      → may_execute (cond poll standing.AtPoll standing.Running) ≡ true
+  at_poll_or_not : (poll : Bool) → may_execute (cond poll standing.AtPoll standing.Running) ≡ true
   at_poll_or_not true = refl
   at_poll_or_not false = refl
 
@@ -136,8 +117,7 @@ module _ (w : LaneWork) (plan : List PlanEntry) (lay : Layout w.work) (some : 0 
         waits None need again h gone = absurd h
         waits (Some x) need again h gone = let bad : Some x ≡ None = gone in cc
 
-        go : (a : Doing) → m.doing p ≡ a
-            → IsPart w plan lay some code a (part_in w c.nodes p)
+        go : (a : Doing) → m.doing p ≡ a → IsPart w plan lay some code a (part_in w c.nodes p)
             → (b : ℕ) × (b < blocks w.work.layout) × (abbrev_wait b ≢ None)
         go Runs e (inl h) = let bad : Running ≡ Waiting resume = sym h ∙ is in cc
         go Runs e (inr h) = let bad : Resumed ≡ Waiting resume = sym h ∙ is in cc
@@ -155,8 +135,7 @@ module _ (w : LaneWork) (plan : List PlanEntry) (lay : Layout w.work) (some : 0 
             let covered = m.matches.covered p b want.need low
             (ap (λ a. matching.wait_in w.work.layout w.work (processors w) (node_of w) there plan code
             (protocol w plan lay some code) (side w plan lay some code) (laid w plan lay some code)
-            a b) e
-            ∙ ap (λ z. cond z (Some want.need) (wanted_in w.work.layout b more)) within) in (
+            a b) e ∙ ap (λ z. cond z (Some want.need) (wanted_in w.work.layout b more)) within) in (
               b,
               (lay.laws.found w.work.layout b (line_of want.at) lay.valid block.1).0,
               waits (abbrev_wait b) want.need _ covered,
@@ -186,8 +165,7 @@ module _ (w : LaneWork) (plan : List PlanEntry) (lay : Layout w.work) (some : 0 
         ]
 
     -- all have ended
-    ended_moves : (i : ℕ) → i < nodes
-        → ((x : ℕ) → x < nodes → have_ended w (c.nodes x) ≡ true)
+    ended_moves : (i : ℕ) → i < nodes → ((x : ℕ) → x < nodes → have_ended w (c.nodes x) ≡ true)
         → is_over w (c.nodes i) ≡ false → (e : LaneEvent) × May w c e
     ended_moves i low all more =
         elim (search (λ x. not ((c.nodes i).shared.byes x)) nodes) [
@@ -202,13 +180,11 @@ module _ (w : LaneWork) (plan : List PlanEntry) (lay : Layout w.work) (some : 0 
         ]
       where
         missing : (x : ℕ) → not ((c.nodes i).shared.byes x) ≡ true
-            → ((c.nodes i).shared.byes x ≡ true) ⊎ (has_bye (c.list x i) ≡ true)
-            → c.list x i ≢ []
+            → ((c.nodes i).shared.byes x ≡ true) ⊎ (has_bye (c.list x i) ≡ true) → c.list x i ≢ []
         missing x left (inl e) empty = let bad : false ≡ true = sym (ap not e) ∙ left in cc
         missing x left (inr e) empty = let bad : false ≡ true = sym (ap has_bye empty) ∙ e in cc
 
-    idle_event : (i : ℕ) → i < nodes → is_over w (c.nodes i) ≡ false
-        → (e : LaneEvent) × May w c e
+    idle_event : (i : ℕ) → i < nodes → is_over w (c.nodes i) ≡ false → (e : LaneEvent) × May w c e
     idle_event i low more =
         elim (search (λ y. not (have_ended w (c.nodes y))) nodes) [
           | inl y ↦ some_lane_moves y.0 y.1 y.2
@@ -249,12 +225,10 @@ module _ (w : LaneWork) (plan : List PlanEntry) (lay : Layout w.work) (some : 0 
       (all y ly) in
       let taken = count_full (c.nodes y).shared.byes nodes x
       (is_same (count_of (c.nodes y).shared.byes nodes) nodes there.1) lx in
-      none_left (c.list x y)
-      (ap (λ z. is_calm z (c.list x y)) (sym taken) ∙ f.calm.lists x y lx ly)
+      none_left (c.list x y) (ap (λ z. is_calm z (c.list x y)) (sym taken) ∙ f.calm.lists x y lx ly)
       (world.settled lay.laws w.work.layout lay.valid lay.laid
       (world_of w.work.layout (locals_in c.nodes) (rest_at m.counts (view c 0))) s.shared
-      m.matches.shares.held.holds
-      (λ k b lk lb. not_waiting ((c.nodes k).shared.wait b)
+      m.matches.shares.held.holds (λ k b lk lb. not_waiting ((c.nodes k).shared.wait b)
       (none_waits w plan lay some code c s m f k lk
       (both_of (have_ended w (c.nodes k)) (has_all_byes w.work (as_node (c.nodes k) 0))
       (all k lk)).0 b)) x y lx ly)

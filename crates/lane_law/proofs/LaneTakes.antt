@@ -3,21 +3,9 @@
 use Rattle.std.proofs.Common.{◌≡◌, ℕ, zero, suc, ◌<◌, cond, eqb, Bool, true, false, List, [], ◌∷◌, ◌++◌, Option, Some, None, refl, sym, ap, ◌∙◌, subst, inl, inr, ◌+◌, ◌≤◌, arith}
 use Rattle.std.specs.Prelude.{is_some, not, ◌&&◌, if◌then◌else◌}
 use Rattle.std.specs.Option.{option_to_list}
-use Rattle.home_directory.specs.dsm_messages.declared.messages.Need.{Need}
-use Rattle.home_directory.specs.dsm_messages.declared.messages.Wire.{Wire}
-use Rattle.home_directory.specs.declared.wait.Wait.{Wait}
-use Rattle.node_model.specs.miss_handlers.Rows.{Row, row_of, taker_in, is_bye}
-use Rattle.rv32_program.specs.declared.End.TheVariants.{Stopped}
-use Rattle.rv32_program.specs.Program.{line_of}
-use Rattle.rv32_step.specs.OneMemory.{Processor, State, Pick, run}
-use Rattle.templates.specs.declared.plans.PlanEntry.{PlanEntry}
+use Rattle.lane_law.proofs.Names.{Need, Wire, Wait, Row, row_of, taker_in, is_bye, Stopped, line_of, Processor, State, Pick, run, PlanEntry, wanted, Node, ProcessorState, NodeMemory, Want, Resume, Resumed, Waiting, Ended, lane_resumed, stop_or, Turn, holding, Order, order_by, order_of, break_by, messages_of, LaneWork, LanePart, LaneNode, local_of, as_node, processors, node_of, lane_of, processor_of, blocks_of, still, resume_part, resumed, counted, held_by, journaled, handled_for, have_ended, after_message, LaneCore, with_list, take_first, held_order, picks_of_take}
 use Rattle.dsm_protocol.specs.Events.{row_of as row_at}
-use Rattle.dsm_protocol.specs.Holds.{wanted}
 use Rattle.dsm_protocol.proofs.ProtocolSide as world
-use Rattle.node_model.specs.Node.{Node, ProcessorState, NodeMemory, Want, Resume, Resumed, Waiting, Ended, lane_resumed, stop_or}
-use Rattle.node_model.specs.Turns.{Turn, holding}
-use Rattle.rewriting_law.specs.CoreRun.{Order, order_by, order_of, break_by}
-use Rattle.rewriting_law.specs.ProtocolLists.{messages_of}
 use Rattle.rewriting_law.proofs.one_memory.Messages.{cleared_by}
 use Rattle.rewriting_law.proofs.one_memory.Sharing.{with_local, is_same}
 use Rattle.rewriting_law.proofs.one_memory.Pending.{AllSought, is_pending, pending}
@@ -28,11 +16,7 @@ use Rattle.rewriting_law.proofs.protocol_side.Directory.{Rest, world_of, took, t
 use Rattle.rewriting_law.proofs.protocol_side.DirectorySide.{Layout, Held, is_waiting}
 use Rattle.rewriting_law.proofs.runs.Turns.{handled_same}
 use Rattle.rewriting_law.proofs.runs.TurnTies.{rest_at, IsTurn, own_wait, AllFound, message_turned}
-use Rattle.lane_model.specs.Nodes.{LaneWork, LanePart, LaneNode, local_of, as_node, processors, node_of, lane_of, processor_of}
-use Rattle.lane_model.specs.Turns.{blocks_of, still, resume_part, resumed, counted, held_by, journaled, handled_for, have_ended, after_message}
-use Rattle.lane_model.specs.Core.{LaneCore, with_list, take_first}
 use Rattle.lane_law.specs.Picks as picks
-use Rattle.lane_law.specs.Picks.{held_order, picks_of_take}
 use Rattle.lane_law.proofs.LaneCode.{LaneCode}
 use Rattle.lane_law.proofs.LaneMessages as messages
 use Rattle.lane_law.proofs.LaneMatching as matching
@@ -107,8 +91,7 @@ module _ (w : LaneWork) (plan : List PlanEntry) (lay : Layout w.work) (some : 0 
     taken_for k = (protocol w plan lay some code).take (locals_for k) rest i j
 
     row_taken : (k : ℕ) → took w.work.layout (local_of x.shared k) rest i j (messages_of wires)
-        (row_of w.work.layout (n1 k).me (holding w.work.layout (n1 k)) j wire.message)
-        ≡ taken_for k
+        (row_of w.work.layout (n1 k).me (holding w.work.layout (n1 k)) j wire.message) ≡ taken_for k
     row_taken k =
         ap (λ me. took w.work.layout (local_of x.shared k) rest i j (messages_of wires)
         (row_of w.work.layout me (holding w.work.layout (n1 k)) j wire.message)) (m.numbers i below)
@@ -136,8 +119,7 @@ module _ (w : LaneWork) (plan : List PlanEntry) (lay : Layout w.work) (some : 0 
     wait_then = (protocol w plan lay some code).wait taken.rest i
 
     waited : (b : ℕ) → is_some (n.wait b) ≡ is_some (wait_then b)
-    waited b = is_waiting (n.wait b)
-        ∙ ap (λ (f : ℕ → Option Wait). is_some (wanted (f b)))
+    waited b = is_waiting (n.wait b) ∙ ap (λ (f : ℕ → Option Wait). is_some (wanted (f b)))
         (own_wait (view c1 0) i (t 0) taken (turned 0))
 
     has : is_some_list w.work.layout (messages_of (c.list j i)) ≡ true
@@ -309,8 +291,7 @@ module _ (w : LaneWork) (plan : List PlanEntry) (lay : Layout w.work) (some : 0 
         old : LaneNode
         old = c.nodes (node_of w p)
 
-        go : (z : Bool) → eqb (node_of w p) i ≡ z
-            → field (cond z node_now old) (lane_of w p)
+        go : (z : Bool) → eqb (node_of w p) i ≡ z → field (cond z node_now old) (lane_of w p)
             ≡ cond z (f (field old (lane_of w p))) (field old (lane_of w p))
         go false e = refl
         go true e = is (lane_of w p)
@@ -328,19 +309,16 @@ module _ (w : LaneWork) (plan : List PlanEntry) (lay : Layout w.work) (some : 0 
         (cleared_by w.work.layout (held_order holder order)) reserved_for p
 
     abbrev lanes_then : ℕ → ProcessorState
-    lanes_then p =
-        if eqb (node_of w p) i then lane_taken (lanes p) (m.doing p) else lanes p
+    lanes_then p = if eqb (node_of w p) i then lane_taken (lanes p) (m.doing p) else lanes p
 
     abbrev doing_then : ℕ → Doing
-    doing_then p =
-        if eqb (node_of w p) i then doing_taken (executed p) (m.doing p) else m.doing p
+    doing_then p = if eqb (node_of w p) i then doing_taken (executed p) (m.doing p) else m.doing p
 
     taken_here : (p : ℕ) → p < processors w
         → (lanes_in w nodes_now p ≡ lanes_then p) × IsPartHere (doing_then p) (part_in w nodes_now p)
     taken_here p lp =
         subst (λ (y : LanePart). (y.lane ≡ lanes_then p) × IsPartHere (doing_then p) y)
-        (sym (parts_now p))
-        (elim (eqb (node_of w p) i)
+        (sym (parts_now p)) (elim (eqb (node_of w p) i)
         as (λ z. ((cond z (resumed w.work n (part_in w c.nodes p)) (part_in w c.nodes p)).lane
         ≡ cond z (lane_taken (lanes p) (m.doing p)) (lanes p))
         × IsPartHere (cond z (doing_taken (executed p) (m.doing p)) (m.doing p))
@@ -417,13 +395,11 @@ module _ (w : LaneWork) (plan : List PlanEntry) (lay : Layout w.work) (some : 0 
 
     counted_row : (o : Option Row)
         → ((took w.work.layout (locals i) rest i j (messages_of wires) o).rest.counts.asked
-        ≡ m.counts.asked)
-        × (m.counts.taken
+        ≡ m.counts.asked) × (m.counts.taken
         ≤ (took w.work.layout (locals i) rest i j (messages_of wires) o).rest.counts.taken)
     counted_row o = took_counts w.work.layout (locals i) rest i j (messages_of wires) o
 
-    counted_first : (b : Bool) → is_bye wire.message ≡ b
-        → TakeCounts b m.counts
+    counted_first : (b : Bool) → is_bye wire.message ≡ b → TakeCounts b m.counts
         (take_from w.work.layout locals rest i j (messages_of (wire ∷ wires))).rest.counts
     counted_first true bye =
         let row = counted_row (row_at w.work.layout (world_of w.work.layout locals rest) i j
@@ -458,11 +434,9 @@ module _ (w : LaneWork) (plan : List PlanEntry) (lay : Layout w.work) (some : 0 
         (Counted (c.list j i)) (take_first w c i j (c.list j i))
     take_leads =
         subst (λ ks. LeadsTo w plan lay some code s ks (λ p. []) [] (Counted (c.list j i))
-        (take_first w c i j (c.list j i)))
-        (sym picks_are)
+        (take_first w c i j (c.list j i))) (sym picks_are)
         (subst (λ xs. LeadsTo w plan lay some code s picks_here (λ p. []) [] (Counted xs)
-        (take_first w c i j xs))
-        (sym front) (record {
+        (take_first w c i j xs)) (sym front) (record {
           advanced = event.advanced;
           behind = core_then w plan lay some code c1 i 0 taken
               (run (one w plan lay some code) s picks_here) (t 0)
@@ -472,6 +446,5 @@ module _ (w : LaneWork) (plan : List PlanEntry) (lay : Layout w.work) (some : 0 
               (sym (core_counts w plan lay some code c1 i 0 taken
               (run (one w plan lay some code) s picks_here) (t 0)
               (λ k. resumed w.work n (x.lanes k)) (λ k. (t k).node.local.reservation)
-              held_now (counted n x.lanes w.lanes) None ends (turned 0) leaves))
-              counted_here;
+              held_now (counted n x.lanes w.lanes) None ends (turned 0) leaves)) counted_here;
         }))

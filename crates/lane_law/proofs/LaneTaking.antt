@@ -3,19 +3,7 @@
 use Rattle.std.proofs.Common.{◌≡◌, ℕ, ◌<◌, ◌⊎◌, cond, eqb, Bool, true, false, List, [], ◌∷◌, length, ◌≤◌, Option, Some, None, refl, sym, ap, ◌∙◌, subst, inl, inr, arith}
 use Rattle.std.specs.Prelude.{if◌then◌else◌, ◌==◌, is_some, option_and_then}
 use Rattle.std.specs.Option.{option_map_or}
-use Rattle.block_layout.specs.Layout.{Shape, block_of, has_line}
-use Rattle.rv32_program.specs.declared.End.TheVariants.{Exited, Stopped}
-use Rattle.rv32_program.specs.declared.Class.{Class}
-use Rattle.rv32_program.specs.declared.Class.TheVariants.{Shared, ReadOnly, Private, Unmapped}
-use Rattle.rv32_program.specs.Program.{line_of}
-use Rattle.rv32_step.specs.Breaks.{is_in_block, stands_at_store, RunsToStore}
-use Rattle.rv32_step.specs.OneMemory.{Original, Processor, State, Pick, run}
-use Rattle.templates.specs.declared.plans.PlanEntry.{PlanEntry}
-use Rattle.node_model.specs.jump_map.Maps.{fetch}
-use Rattle.home_directory.specs.dsm_messages.declared.messages.Need.{Need}
-use Rattle.home_directory.specs.dsm_messages.declared.messages.Need.TheVariants.{Write}
-use Rattle.node_model.specs.Node.{Work, ProcessorState, NodeMemory, Want, Resume, lane_resumed, takes_messages, is_readable_state, is_writable_state}
-use Rattle.rewriting_law.specs.CoreRun.{Order}
+use Rattle.lane_law.proofs.Names.{Shape, block_of, has_line, Exited, Stopped, Class, Shared, ReadOnly, Private, Unmapped, line_of, is_in_block, stands_at_store, RunsToStore, Original, Processor, State, Pick, run, PlanEntry, fetch, Need, Write, Work, ProcessorState, NodeMemory, Want, Resume, lane_resumed, takes_messages, is_readable_state, is_writable_state, Order, held_order}
 use Rattle.rewriting_law.proofs.templates.RegisterLemmas.{equal}
 use Rattle.rewriting_law.proofs.templates.States.{StateFits, Suits, Later, grants}
 use Rattle.rewriting_law.proofs.one_memory.Advances.{Advanced}
@@ -23,9 +11,8 @@ use Rattle.rewriting_law.proofs.one_memory.Sharing.{Sharing, with_local, is_same
 use Rattle.rewriting_law.proofs.one_memory.Messages.{AreLaidOut, cleared_by}
 use Rattle.rewriting_law.proofs.one_memory.Pending.{wanted_in, is_pending, pending, StandsWaiting, waiting_stores, waits_on, pending_wanted, not_pending}
 use Rattle.rewriting_law.proofs.protocol_side.ProtocolSide.{Handled, Protocol, ProtocolSide, TakeLeaves, sharing_by}
-use Rattle.lane_law.specs.Picks.{held_order}
 use Rattle.lane_law.proofs.LaneCode.{LaneCode}
-use Rattle.lane_law.proofs.LaneSharing.{original, seen}
+use Rattle.rewriting_law.proofs.one_memory.SharedWords.{original, seen}
 use Rattle.lane_law.proofs.LaneMessages.{breaks, reserved_then, Took, Taken, message_shares, cleared_left}
 use Rattle.lane_law.proofs.LaneWants.{covers_grants, IsCovered}
 use Rattle.lane_law.proofs.LaneMatching as matching
@@ -42,8 +29,7 @@ module _ (layout : Shape) (work : Work) (processors : ℕ) (node_of : ℕ → �
   sees = seen layout work processors node_of placed
 
   abbrev StandsIn : Doing → Processor → ProcessorState → NodeMemory → Type 0
-  StandsIn =
-      matching.StandsIn layout work processors node_of placed plan code protocol side laid
+  StandsIn = matching.StandsIn layout work processors node_of placed plan code protocol side laid
 
   abbrev wait_in : Doing → ℕ → Option Need
   wait_in = matching.wait_in layout work processors node_of placed plan code protocol side laid
@@ -114,8 +100,7 @@ module _ (layout : Shape) (work : Work) (processors : ℕ) (node_of : ℕ → �
 
   -- a processor that runs may see its node lose a block before a poll or a call
   abbrev pub MayTake : Doing → ProcessorState → Type 0
-  MayTake Runs l =
-      takes_messages (option_and_then (λ w. w.what) (fetch work.image l.at)) ≡ true
+  MayTake Runs l = takes_messages (option_and_then (λ w. w.what) (fetch work.image l.at)) ≡ true
   MayTake a l = Unit {0}
 
   -- what is waited for is still waited for, or isn't
@@ -187,16 +172,14 @@ module _ (layout : Shape) (work : Work) (processors : ℕ) (node_of : ℕ → �
       left = side.takes locals rest s.shared m.shares.held i j below low has
 
       -- who waits to write a block stands at a store into it
-      waiting : (x b h : ℕ) → IsHeld doing x b Write h
-          → ((s.processors h).exit ≡ None)
+      waiting : (x b h : ℕ) → IsHeld doing x b Write h → ((s.processors h).exit ≡ None)
           × ((stands_at_store work.program layout b (s.processors h).registers
           (s.processors h).pc ≡ true)
           ⊎ RunsToStore work.program layout b (s.processors h).registers (s.processors h).pc)
       waiting x b h is = go (doing h) (m.stands h is.0) is.2
         where
           go : (a : Doing) → StandsIn a (s.processors h) (lanes h) (sees locals reserved h)
-              → wait_in a b ≡ Some Write
-              → ((s.processors h).exit ≡ None)
+              → wait_in a b ≡ Some Write → ((s.processors h).exit ≡ None)
               × ((stands_at_store work.program layout b (s.processors h).registers
               (s.processors h).pc ≡ true)
               ⊎ RunsToStore work.program layout b (s.processors h).registers (s.processors h).pc)
@@ -313,8 +296,7 @@ module _ (layout : Shape) (work : Work) (processors : ℕ) (node_of : ℕ → �
             }
           where
             reads_by : protocol.order locals rest i j ≡ None → (line : ℕ) → (c : Class)
-                → work.program.class line ≡ c
-                → is_readable_state ((locals i).state line) ≡ true
+                → work.program.class line ≡ c → is_readable_state ((locals i).state line) ≡ true
                 → is_readable_state (taken.local.state line) ≡ true
             reads_by none line Shared e h = elim (left.reads line e h) [
               | inl f ↦ f
@@ -371,15 +353,13 @@ module _ (layout : Shape) (work : Work) (processors : ℕ) (node_of : ℕ → �
             covers =
                 subst (λ k. IsCovered (protocol.wait rest k b) want.need false) same
                 (subst (λ a. IsCovered (protocol.wait rest (node_of p) b) want.need (again_in a)) is
-                (m.covered p b want.need lp
-                (ap (λ a. wait_in a b) is
+                (m.covered p b want.need lp (ap (λ a. wait_in a b) is
                 ∙ ap (λ t. cond t (Some want.need) (wanted_in layout b more)) inside)))
 
             ended : wait_then b ≡ None
             ended = not_pending layout work plan laid code.Stands wait_then want more none b lies.1
 
-            served : (o : Option Need) → protocol.wait rest i b ≡ o
-                → IsCovered o want.need false
+            served : (o : Option Need) → protocol.wait rest i b ≡ o → IsCovered o want.need false
                 → grants want.need (taken.local.state (line_of want.at)) ≡ true
             served None e g = absurd g
             served (Some have) e (inl g) = let bad : false ≡ true = g in cc
@@ -413,8 +393,7 @@ module _ (layout : Shape) (work : Work) (processors : ℕ) (node_of : ℕ → �
 
       -- who held a wait that goes on holds it still
       held_then : (x b : ℕ) (need : Need) → x < work.layout.nodes
-          → protocol.wait taken.rest x b ≡ Some need
-          → IsHeld doing_then x b need (holder x b)
+          → protocol.wait taken.rest x b ≡ Some need → IsHeld doing_then x b need (holder x b)
       held_then x b need lx is = go (eqb x i) refl
         where
           elsewhere : eqb x i ≡ false → IsHeld doing x b need (holder x b)
@@ -423,8 +402,7 @@ module _ (layout : Shape) (work : Work) (processors : ℕ) (node_of : ℕ → �
             h.0,
             h.1,
             ap (λ t. wait_in (cond t (doing_taken (executed (holder x b)) wait_then
-                (doing (holder x b))) (doing (holder x b))) b)
-                (ap (λ k. eqb k i) h.1 ∙ e) ∙ h.2,
+                (doing (holder x b))) (doing (holder x b))) b) (ap (λ k. eqb k i) h.1 ∙ e) ∙ h.2,
           )
 
           at_node : x ≡ i → IsHeld doing x b need (holder x b)
@@ -458,8 +436,7 @@ module _ (layout : Shape) (work : Work) (processors : ℕ) (node_of : ℕ → �
       some_only None u need h = let bad : None ≡ Some need = h in cc
       some_only (Some x) u need h = (h, refl)
 
-      covered_then : (p b : ℕ) (need : Need) → p < processors
-          → wait_in (doing_then p) b ≡ Some need
+      covered_then : (p b : ℕ) (need : Need) → p < processors → wait_in (doing_then p) b ≡ Some need
           → IsCovered (protocol.wait taken.rest (node_of p) b) need (again_in (doing_then p))
       covered_then p b need lp = go (eqb (node_of p) i) refl
         where
@@ -487,8 +464,7 @@ module _ (layout : Shape) (work : Work) (processors : ℕ) (node_of : ℕ → �
               subst (λ k. IsCovered (protocol.wait rest k b) need (again_in (doing p))) same
               (m.covered p b need lp f.0) in
               subst (λ k. IsCovered (protocol.wait taken.rest k b) need (again_in abbrev_then))
-              (sym same)
-              (subst (IsCovered (wait_then b) need)
+              (sym same) (subst (IsCovered (wait_then b) need)
               (sym (again_taken (executed p) wait_then (doing p) b need h))
               (subst (λ o. IsCovered o need (again_in (doing p))) (sym (stays f.1)) old))
 

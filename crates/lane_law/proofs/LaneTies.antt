@@ -3,18 +3,7 @@
 use Rattle.std.proofs.Common.{◌≡◌, ℕ, ◌<◌, cond, eqb, Bool, true, false, List, [], ◌∷◌, ◌++◌, Option, Some, None, refl, sym, ap, ◌∙◌, subst}
 use Rattle.std.specs.Prelude.{is_some, unwrap_or, ◌||◌}
 use Rattle.std.specs.Option.{option_map_or, option_to_list}
-use Rattle.block_layout.specs.Layout.{Shape, block_of}
-use Rattle.home_directory.specs.dsm_messages.declared.messages.Need.{Need}
-use Rattle.home_directory.specs.dsm_messages.declared.messages.Need.TheVariants.{Read, Write}
-use Rattle.home_directory.specs.declared.wait.Wait.{Wait}
-use Rattle.rv32_program.specs.Program.{line_of}
-use Rattle.rv32_step.specs.Breaks.{is_in_block}
-use Rattle.templates.specs.declared.plans.PlanEntry.{PlanEntry}
-use Rattle.dsm_protocol.specs.Holds.{wanted}
-use Rattle.node_model.specs.declared.NodeCounts.{NodeCounts}
-use Rattle.node_model.specs.Node.{Work, NodeMemory, Want}
-use Rattle.node_model.specs.Turns.{Turn, want_in}
-use Rattle.node_model.specs.Core.{Core}
+use Rattle.lane_law.proofs.Names.{Shape, block_of, Need, Read, Write, Wait, line_of, is_in_block, PlanEntry, wanted, NodeCounts, Work, NodeMemory, Want, Turn, want_in, Core, LanePart, LaneNode, as_node, shared_by, LaneTurn, Asked, is_beyond, exceeds, ask, ask_all, blocks_of, still, LaneCore, with_turn}
 use Rattle.rewriting_law.proofs.templates.RegisterLemmas.{equal}
 use Rattle.rewriting_law.proofs.one_memory.Sharing.{with_local}
 use Rattle.rewriting_law.proofs.one_memory.Pending.{wanted_in, is_pending, pending}
@@ -22,9 +11,6 @@ use Rattle.rewriting_law.proofs.protocol_side.ProtocolSide.{Handled}
 use Rattle.rewriting_law.proofs.protocol_side.Directory.{Rest, directory}
 use Rattle.rewriting_law.proofs.protocol_side.DirectorySide.{is_waiting}
 use Rattle.rewriting_law.proofs.runs.TurnTies.{rest_of, SameRest, IsTurn, own_wait, AllFound, want_turned}
-use Rattle.lane_model.specs.Nodes.{LanePart, LaneNode, as_node, shared_by}
-use Rattle.lane_model.specs.Turns.{LaneTurn, Asked, is_beyond, exceeds, ask, ask_all, blocks_of, still}
-use Rattle.lane_model.specs.Core.{LaneCore, with_turn}
 use Rattle.lane_law.proofs.LaneWants as wants
 
 -- 1. A core as one lane of each node sees it
@@ -122,8 +108,7 @@ module _ (layout : Shape) (work : Work) (processors : ℕ) (node_of : ℕ → �
         turned = subst (λ s. IsTurn c i (cond s t.turn (want_in layout t.turn w.need (Some b)))
             (ask_lane locals u w).handled) (sym some) (by (is_some waits));
         again = ap (λ x. x || exceeds (t.turn.node.wait b) w.need) h.again
-            ∙ ap (λ x. u.again || x)
-            (exceeds_same (t.turn.node.wait b) w.need
+            ∙ ap (λ x. u.again || x) (exceeds_same (t.turn.node.wait b) w.need
             ∙ ap (λ o. wants.exceeds (wanted o) w.need) same);
       })
     where
@@ -139,16 +124,14 @@ module _ (layout : Shape) (work : Work) (processors : ℕ) (node_of : ℕ → �
       some : is_some (t.turn.node.wait b) ≡ is_some waits
       some = is_waiting (t.turn.node.wait b) ∙ ap (λ o. is_some (wanted o)) same
 
-      by : (s : Bool)
-          → IsTurn c i (cond s t.turn (want_in layout t.turn w.need (Some b)))
+      by : (s : Bool) → IsTurn c i (cond s t.turn (want_in layout t.turn w.need (Some b)))
           (cond s u.handled ((directory layout).want (with_local locals i u.handled.local)
           u.handled.rest i b w.need))
       by true = h.turned
       by false = want_turned c i layout locals t.turn u.handled b w.need h.turned
 
   pub asks_turned : (locals : ℕ → NodeMemory) (ws : List Want) (t : Asked) (u : LaneAsked)
-      → AllFound c i layout ws → IsAsked t u
-      → IsAsked (ask_all layout ws t)
+      → AllFound c i layout ws → IsAsked t u → IsAsked (ask_all layout ws t)
       (wants.ask_all layout work processors node_of placed plan (directory layout) locals i u ws)
   asks_turned locals [] t u found h = h
   asks_turned locals (w ∷ ws) t u found h =
@@ -174,14 +157,12 @@ module _ (layout : Shape) (work : Work) (processors : ℕ) (node_of : ℕ → �
       in
       ap (λ o. still wait (option_to_list o ++ blocks_of layout ws)) found.0.1
       ∙ ap (λ z. cond z (b ∷ still wait (blocks_of layout ws)) (still wait (blocks_of layout ws)))
-      here
-      ∙ ap (λ bs. b ∷ bs) rest
+      here ∙ ap (λ bs. b ∷ bs) rest
       ∙ ap (λ o. option_to_list o ++ blocks_of layout ws) (sym found.0.1)
     where
       tail : (d : ℕ) (need : Need) (t : Bool) → is_in_block layout d w.at ≡ t
           → wanted_in layout d ws ≡ Some need → is_some (wait d) ≡ true
-      tail d need true f e =
-          h d w.need (ap (λ z. cond z (Some w.need) (wanted_in layout d ws)) f)
+      tail d need true f e = h d w.need (ap (λ z. cond z (Some w.need) (wanted_in layout d ws)) f)
       tail d need false f e =
           h d need (ap (λ z. cond z (Some w.need) (wanted_in layout d ws)) f ∙ e)
 
@@ -208,6 +189,5 @@ module _ (layout : Shape) (work : Work) (processors : ℕ) (node_of : ℕ → �
           → cond z (b ∷ still wait (blocks_of layout ws)) (still wait (blocks_of layout ws))
           ≡ blocks_of layout (cond z (w ∷ pending layout needs ws) (pending layout needs ws))
       go true e = ap (λ bs. b ∷ bs) e
-          ∙ ap (λ o. option_to_list o ++ blocks_of layout (pending layout needs ws))
-          (sym found.0.1)
+          ∙ ap (λ o. option_to_list o ++ blocks_of layout (pending layout needs ws)) (sym found.0.1)
       go false e = e

@@ -4,12 +4,7 @@ use Rattle.std.proofs.Common.{◌≡◌, ◌≢◌, ℕ, zero, suc, ◌+◌, ◌
 use Rattle.std.specs.Prelude.{if◌then◌else◌, ◌==◌, ◌&&◌, is_some}
 use Rattle.std.specs.Option.{option_map_or}
 use Rattle.std.proofs.lemmas.Bool.Decides.{eqb_tells, nat_tests}
-use Rattle.block_layout.specs.Layout.{Shape, block_of}
-use Rattle.rv32_program.specs.Program.{line_of}
-use Rattle.rv32_step.specs.Breaks.{is_in_block}
-use Rattle.home_directory.specs.dsm_messages.declared.messages.Need.{Need}
-use Rattle.home_directory.specs.Home.{count_of}
-use Rattle.node_model.specs.Node.{Want}
+use Rattle.lane_law.proofs.Names.{Shape, block_of, line_of, is_in_block, Need, count_of, Want}
 use Rattle.rewriting_law.proofs.templates.RegisterLemmas.{equal, apart}
 use Rattle.rewriting_law.proofs.one_memory.Sharing.{is_same}
 use Rattle.rewriting_law.proofs.one_memory.Pending.{wanted_in}
@@ -39,8 +34,7 @@ module _ (layout : Shape) (wait : ℕ → Option Need) (holder : ℕ → ℕ) wh
   inside c (Some d) e = ap (λ x. Some x) (is_same d c e)
 
   -- a block's wants are mine where I hold its wait, and none else's
-  mine_wanted : (p c : ℕ) (u : Bool) → (eqb (holder c) p && is_some (wait c)) ≡ u
-      → (ws : List Want)
+  mine_wanted : (p c : ℕ) (u : Bool) → (eqb (holder c) p && is_some (wait c)) ≡ u → (ws : List Want)
       → wanted_in layout c (mine p ws) ≡ cond u (wanted_in layout c ws) None
   mine_wanted p c true holds [] = refl
   mine_wanted p c false holds [] = refl
@@ -82,8 +76,7 @@ module _ (layout : Shape) (wait : ℕ → Option Need) (holder : ℕ → ℕ) wh
   append_wanted c (x ∷ xs) ys h = go (is_in_block layout c x.at) h (append_wanted c xs ys)
     where
       go : (u : Bool) → cond u (Some x.need) (wanted_in layout c xs) ≡ None
-          → (wanted_in layout c xs ≡ None
-          → wanted_in layout c (xs ++ ys) ≡ wanted_in layout c ys)
+          → (wanted_in layout c xs ≡ None → wanted_in layout c (xs ++ ys) ≡ wanted_in layout c ys)
           → cond u (Some x.need) (wanted_in layout c (xs ++ ys)) ≡ wanted_in layout c ys
       go true h g = let bad : Some x.need ≡ None = h in cc
       go false h g = g h
@@ -91,8 +84,7 @@ module _ (layout : Shape) (wait : ℕ → Option Need) (holder : ℕ → ℕ) wh
   append_first : (c : ℕ) (need : Need) (xs ys : List Want) → wanted_in layout c xs ≡ Some need
       → wanted_in layout c (xs ++ ys) ≡ Some need
   append_first c need [] ys h = let bad : None ≡ Some need = h in cc
-  append_first c need (x ∷ xs) ys h =
-      go (is_in_block layout c x.at) h (append_first c need xs ys)
+  append_first c need (x ∷ xs) ys h = go (is_in_block layout c x.at) h (append_first c need xs ys)
     where
       go : (u : Bool) → cond u (Some x.need) (wanted_in layout c xs) ≡ Some need
           → (wanted_in layout c xs ≡ Some need → wanted_in layout c (xs ++ ys) ≡ Some need)
@@ -121,8 +113,7 @@ module _ (layout : Shape) (wait : ℕ → Option Need) (holder : ℕ → ℕ) wh
     none_gathered c e zero = refl
     none_gathered c e (suc p) =
         append_wanted c (part p) (gather p) (part_other c p
-        (ap (λ o. eqb (holder c) p && is_some o) e ∙ last (eqb (holder c) p)))
-        ∙ none_gathered c e p
+        (ap (λ o. eqb (holder c) p && is_some o) e ∙ last (eqb (holder c) p))) ∙ none_gathered c e p
       where
         last : (u : Bool) → (u && false) ≡ false
         last true = refl
@@ -136,8 +127,7 @@ module _ (layout : Shape) (wait : ℕ → Option Need) (holder : ℕ → ℕ) wh
       | inl f ↦ append_first c need (part p) (gather p)
           (subst (λ z. wanted_in layout c (part z) ≡ Some need) f.1
           (ap (λ t. wanted_in layout c (cond t (mine (holder c) (wants (holder c))) []))
-          (equal (node_of (holder c)) i at)
-          ∙ mine_wanted (holder c) c true
+          (equal (node_of (holder c)) i at) ∙ mine_wanted (holder c) c true
           (ap (λ t. t && is_some (wait c)) (equal (holder c) (holder c) refl) ∙ ap is_some e)
           (wants (holder c)) ∙ wanted))
       | inr f ↦ append_wanted c (part p) (gather p) (part_other c p
@@ -149,8 +139,7 @@ module _ (layout : Shape) (wait : ℕ → Option Need) (holder : ℕ → ℕ) wh
         below x y a b = grind (arith, nat_tests)
 
     -- they are the node's waits
-    pub gathered : (k : ℕ)
-        → ((c : ℕ) (need : Need) → wait c ≡ Some need
+    pub gathered : (k : ℕ) → ((c : ℕ) (need : Need) → wait c ≡ Some need
         → (holder c < k) × (node_of (holder c) ≡ i)
         × (wanted_in layout c (wants (holder c)) ≡ Some need))
         → (c : ℕ) → wait c ≡ wanted_in layout c (gather k)

@@ -2,23 +2,17 @@
 use Rattle.std.proofs.Common.{◌≡◌, ◌≢◌, ℕ, ◌+◌, ◌<◌, ◌≤◌, ◌⊎◌, cond, eqb, Bool, true, false, List, [], ◌∷◌, length, Option, Some, None, refl, sym, ap, ◌∙◌, subst, inl, inr, arith}
 use Rattle.std.specs.Prelude.{◌&&◌, ◌||◌, if◌then◌else◌, is_some, unwrap_or}
 use Rattle.std.specs.Option.{option_map_or}
-use Rattle.block_layout.specs.Layout.{Shape, block_of}
-use Rattle.rv32_program.specs.Program.{line_of}
-use Rattle.rv32_step.specs.Breaks.{is_in_block}
-use Rattle.rv32_step.specs.OneMemory.{Processor, State}
-use Rattle.templates.specs.declared.plans.PlanEntry.{PlanEntry}
-use Rattle.home_directory.specs.dsm_messages.declared.messages.Need.{Need}
-use Rattle.home_directory.specs.dsm_messages.declared.messages.Need.TheVariants.{Read, Write}
-use Rattle.node_model.specs.Node.{Work, NodeMemory, Want, is_readable_state, is_writable_state}
+use Rattle.lane_law.proofs.Names.{Shape, block_of, line_of, is_in_block, Processor, State, PlanEntry, Need, Read, Write, Work, NodeMemory, Want, is_readable_state, is_writable_state}
 use Rattle.rewriting_law.proofs.templates.RegisterLemmas.{equal}
 use Rattle.rewriting_law.proofs.templates.States.{grants}
 use Rattle.rewriting_law.proofs.templates.Does.{IsWanted}
 use Rattle.rewriting_law.proofs.words.CodeSide.{AllWanted, IsAlone}
 use Rattle.rewriting_law.proofs.one_memory.Sharing.{with_local, local_here, is_same, readable_if_writable}
 use Rattle.rewriting_law.proofs.one_memory.Messages.{AreLaidOut}
+use Rattle.rewriting_law.proofs.one_memory.Wants.{other_way, alone_wanted, not_first, swapped}
 use Rattle.rewriting_law.proofs.one_memory.Pending.{wanted_in}
 use Rattle.rewriting_law.proofs.protocol_side.ProtocolSide.{Handled, Protocol, ProtocolSide, WantLeaves, sharing_by}
-use Rattle.lane_law.proofs.LaneSharing.{Shares}
+use Rattle.rewriting_law.proofs.one_memory.SharedWords.{Shares}
 use Rattle.lane_law.proofs.LaneMessages.{want_shares}
 
 -- what is waited for serves a need as well
@@ -166,8 +160,7 @@ module _ (layout : Shape) (work : Work) (processors : ℕ) (node_of : ℕ → �
                   → (locals j).copy ≡ (cond t (locals i) (locals j)).copy) [
                     | true ↦ (λ e. ap (λ k. (locals k).copy) (is_same j i e))
                     | false ↦ (λ e. refl)
-                  ]) refl)
-                  (λ j. (elim (eqb j i) as (λ t. eqb j i ≡ t
+                  ]) refl) (λ j. (elim (eqb j i) as (λ t. eqb j i ≡ t
                   → (locals j).state ≡ (cond t (locals i) (locals j)).state) [
                     | true ↦ (λ e. ap (λ k. (locals k).state) (is_same j i e))
                     | false ↦ (λ e. refl)
@@ -192,32 +185,6 @@ module _ (layout : Shape) (work : Work) (processors : ℕ) (node_of : ℕ → �
             reads = λ line e. e;
             writes = λ line e. e;
           }
-
-          -- a block that no want is of
-          alone_wanted : (w : Want) (b : ℕ) → block_of layout (line_of w.at) ≡ Some b
-              → (ws : List Want) → IsAlone layout w ws → wanted_in layout b ws ≡ None
-          alone_wanted w b lies [] h = refl
-          alone_wanted w b lies (v ∷ vs) h =
-              ap (λ t. cond t (Some v.need) (wanted_in layout b vs))
-              (not_in (block_of layout (line_of v.at)) refl) ∙ alone_wanted w b lies vs h.1
-            where
-              tells : (d : ℕ) → block_of layout (line_of v.at) ≡ Some d → (t : Bool) → eqb d b ≡ t
-                  → eqb d b ≡ false
-              tells d e false f = f
-              tells d e true f =
-                  absurd (h.0 (lies ∙ ap (λ x. Some x) (sym (is_same d b f)) ∙ sym e))
-
-              not_in : (o : Option ℕ) → block_of layout (line_of v.at) ≡ o
-                  → is_in_block layout b v.at ≡ false
-              not_in None e = ap (λ o. option_map_or (λ c. eqb c b) o false) e
-              not_in (Some d) e = ap (λ o. option_map_or (λ c. eqb c b) o false) e
-                  ∙ tells d e (eqb d b) refl
-
-          not_first : (c : ℕ) (w : Want) (ws : List Want) (t : Bool) → is_in_block layout c w.at ≡ t
-              → cond t (Some w.need) (wanted_in layout c ws) ≡ None
-              → (is_in_block layout c w.at ≡ false) × (wanted_in layout c ws ≡ None)
-          not_first c w ws true e h = let bad : Some w.need ≡ None = h in cc
-          not_first c w ws false e h = (e, h)
 
           module _ (ws : List Want) (t1 : Asked) (a : AllAsked ws t1) (w : Want) (b : ℕ)
               (is_block : block_wanted w ≡ b) (lies : block_of layout (line_of w.at) ≡ Some b)
@@ -283,7 +250,7 @@ module _ (layout : Shape) (work : Work) (processors : ℕ) (node_of : ℕ → �
               ];
               others = a.others;
               states = λ line c e f.
-                  a.states line c e (not_first c w ws (is_in_block layout c w.at) refl f).1;
+                  a.states line c e (not_first layout c w ws (is_in_block layout c w.at) refl f).1;
               reads = a.reads;
               writes = a.writes;
             }
@@ -309,7 +276,7 @@ module _ (layout : Shape) (work : Work) (processors : ℕ) (node_of : ℕ → �
                 let left = both.0 in
                 let other : (c : ℕ) → eqb b c ≡ false
                 → protocol.wait t.rest i c ≡ protocol.wait t1.handled.rest i c =
-                λ c f. left.others i c (ap (λ u. u && eqb c b) (equal i i refl) ∙ flip c b f) in
+                λ c f. left.others i c (ap (λ u. u && eqb c b) (equal i i refl) ∙ other_way b c f) in
                 let shares1 = want_shares layout work processors node_of placed
                 (sharing_by layout work protocol side laid t1.handled.rest)
                 (sharing_by layout work protocol side laid t.rest) locals1 reserved s i t.local a.shares
@@ -329,8 +296,7 @@ module _ (layout : Shape) (work : Work) (processors : ℕ) (node_of : ℕ → �
                         (locals j))).copy ≡ (cond u t.local (locals j)).copy) [
                           | true ↦ refl
                           | false ↦ refl
-                        ]))
-                        (λ j. (elim (eqb j i) as (λ u. (cond u t.local (cond u t1.handled.local
+                        ])) (λ j. (elim (eqb j i) as (λ u. (cond u t.local (cond u t1.handled.local
                         (locals j))).state ≡ (cond u t.local (locals j)).state) [
                           | true ↦ refl
                           | false ↦ refl
@@ -367,8 +333,8 @@ module _ (layout : Shape) (work : Work) (processors : ℕ) (node_of : ℕ → �
                   others = λ x c e.
                       left.others x c (ap (λ u. u && eqb c b) e) ∙ a.others x c e;
                   states = λ line c e f.
-                      let g = not_first c w ws (is_in_block layout c w.at) refl f in
-                      left.elsewhere line c e (flip c b (sym (within c) ∙ g.0))
+                      let g = not_first layout c w ws (is_in_block layout c w.at) refl f in
+                      left.elsewhere line c e (other_way b c (sym (within c) ∙ g.0))
                       ∙ ap (λ (n : NodeMemory). n.state line) here ∙ a.states line c e g.1;
                   reads = λ line e. left.reads line
                       (ap (λ (n : NodeMemory). is_readable_state (n.state line)) here ∙ a.reads line e);
@@ -376,14 +342,6 @@ module _ (layout : Shape) (work : Work) (processors : ℕ) (node_of : ℕ → �
                       (ap (λ (n : NodeMemory). is_writable_state (n.state line)) here ∙ a.writes line e);
                 }
               where
-                flip : (c b : ℕ) → eqb b c ≡ false → eqb c b ≡ false
-                flip c b e = go (eqb c b) refl
-                  where
-                    go : (u : Bool) → eqb c b ≡ u → eqb c b ≡ false
-                    go false f = f
-                    go true f =
-                        let bad : false ≡ true = sym e ∙ equal b c (sym (is_same c b f)) in cc
-
                 by_list : (after : ℕ → Option Need) (c : ℕ) → after b ≡ Some w.need
                     → (eqb b c ≡ false → after c ≡ protocol.wait t1.handled.rest i c)
                     → protocol.wait t1.handled.rest i c ≡ wanted_in layout c a.listed
@@ -411,8 +369,7 @@ module _ (layout : Shape) (work : Work) (processors : ℕ) (node_of : ℕ → �
 
                 by_own : (after : ℕ → Option Need) (c : ℕ) (have : Need) → after b ≡ Some w.need
                     → (eqb b c ≡ false → after c ≡ protocol.wait t1.handled.rest i c)
-                    → after c ≡ Some have
-                    → (protocol.wait rest i c ≡ Some have)
+                    → after c ≡ Some have → (protocol.wait rest i c ≡ Some have)
                     ⊎ ((protocol.wait rest i c ≡ None) × (wanted_in layout c (w ∷ ws) ≡ Some have))
                 by_own after c have own other e = go (eqb b c) refl
                   where
@@ -422,8 +379,7 @@ module _ (layout : Shape) (work : Work) (processors : ℕ) (node_of : ℕ → �
                     unasked (Some d) f =
                         let bad : None ≡ Some d = sym is ∙ a.kept b d f in cc
 
-                    go : (u : Bool) → eqb b c ≡ u
-                        → (protocol.wait rest i c ≡ Some have)
+                    go : (u : Bool) → eqb b c ≡ u → (protocol.wait rest i c ≡ Some have)
                         ⊎ ((protocol.wait rest i c ≡ None) × (wanted_in layout c (w ∷ ws) ≡ Some have))
                     go true f =
                         let same = is_same b c f in
@@ -452,7 +408,7 @@ module _ (layout : Shape) (work : Work) (processors : ℕ) (node_of : ℕ → �
               lies = found.1 ∙ ap (λ o. Some (unwrap_or o 0)) (sym found.1)
 
               free : wanted_in layout (block_wanted w) ws ≡ None
-              free = alone_wanted w (block_wanted w) lies ws alone
+              free = alone_wanted layout w (block_wanted w) lies ws alone
 
               by : Bool → Asked
               by u = record {
@@ -470,23 +426,6 @@ module _ (layout : Shape) (work : Work) (processors : ℕ) (node_of : ℕ → �
                   subst (λ u. AllAsked (w ∷ ws) (by u)) (sym (ap is_some e))
                   (joins ws t1 a w (block_wanted w) refl lies free have e)
 
-          in_block : (b : ℕ) (o : Option ℕ) → option_map_or (λ c. eqb c b) o false ≡ true → o ≡ Some b
-          in_block b None e = let bad : false ≡ true = e in cc
-          in_block b (Some d) e = ap (λ x. Some x) (is_same d b e)
-
-          swapped : (w v : Want) → block_of layout (line_of w.at) ≢ block_of layout (line_of v.at)
-              → (c : ℕ) → wanted_in layout c (v ∷ w ∷ []) ≡ wanted_in layout c (w ∷ v ∷ [])
-          swapped w v apart_ c = go (is_in_block layout c w.at) (is_in_block layout c v.at) refl refl
-            where
-              go : (x y : Bool) → is_in_block layout c w.at ≡ x → is_in_block layout c v.at ≡ y
-                  → cond y (Some v.need) (cond x (Some w.need) None)
-                  ≡ cond x (Some w.need) (cond y (Some v.need) None)
-              go true true e f = absurd (apart_ (in_block c (block_of layout (line_of w.at)) e
-                  ∙ sym (in_block c (block_of layout (line_of v.at)) f)))
-              go true false e f = refl
-              go false true e f = refl
-              go false false e f = refl
-
           two_asked : (w v : Want) → block_of layout (line_of w.at) ≢ block_of layout (line_of v.at)
               → (t : Asked) → AllAsked (v ∷ w ∷ []) t → AllAsked (w ∷ v ∷ []) t
           two_asked w v other t a = record {
@@ -494,14 +433,14 @@ module _ (layout : Shape) (work : Work) (processors : ℕ) (node_of : ℕ → �
             listed = a.listed;
             few = a.few;
             waits = a.waits;
-            covered = λ c need e. a.covered c need (swapped w v other c ∙ e);
+            covered = λ c need e. a.covered c need (swapped layout w v other c ∙ e);
             kept = a.kept;
             fresh = λ c have e. elim (a.fresh c have e) [
               | inl f ↦ inl f
-              | inr f ↦ inr (f.0, sym (swapped w v other c) ∙ f.1)
+              | inr f ↦ inr (f.0, sym (swapped layout w v other c) ∙ f.1)
             ];
             others = a.others;
-            states = λ line c e f. a.states line c e (swapped w v other c ∙ f);
+            states = λ line c e f. a.states line c e (swapped layout w v other c ∙ f);
             reads = a.reads;
             writes = a.writes;
           }

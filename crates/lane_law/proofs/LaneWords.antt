@@ -2,44 +2,22 @@
 -- picks.
 use Rattle.std.proofs.Common.{◌≡◌, ℕ, ◌+◌, ◌<◌, ◌≤◌, cond, eqb, Bool, true, false, List, [], ◌∷◌, Option, Some, None, refl, sym, ap, ◌∙◌, subst, inl, length, arith}
 use Rattle.std.specs.Prelude.{is_some, not, ◌&&◌}
-use Rattle.block_layout.specs.Layout.{Shape, block_of}
-use Rattle.block_layout.specs.Update.{changed}
-use Rattle.home_directory.specs.dsm_messages.declared.messages.Need.{Need}
-use Rattle.home_directory.specs.declared.wait.Wait.{Wait}
-use Rattle.rv32_program.specs.declared.End.TheVariants.{Stopped}
-use Rattle.rv32_program.specs.Program.{line_of}
-use Rattle.rv32_step.specs.OneMemory.{Processor, State, Pick, run}
-use Rattle.templates.specs.declared.commits.CommitKind.{CommitKind}
-use Rattle.templates.specs.declared.plans.PlanEntry.{PlanEntry}
-use Rattle.templates.specs.Commits.{commit_at}
-use Rattle.node_model.specs.jump_map.Maps.{old_of}
-use Rattle.dsm_protocol.specs.Abstraction.{most_waits}
-use Rattle.dsm_protocol.specs.Holds.{wanted}
-use Rattle.node_model.specs.Core.{Core}
-use Rattle.node_model.specs.Node.{Work, Node, ProcessorState, NodeMemory, Want, Move, Next, Again, To, Enters, Waits, Leaves, WordOutcome, Running, Ended, lane_after, phase_after, stop_or, word_outcome}
-use Rattle.node_model.specs.Turns.{Turn, want_in, each_block_once, wants_of, after_word}
-use Rattle.rewriting_law.specs.CoreRun.{is_wait}
+use Rattle.lane_law.proofs.Names.{Shape, block_of, changed, Need, Wait, Stopped, line_of, Processor, State, Pick, run, CommitKind, PlanEntry, commit_at, old_of, most_waits, wanted, Core, Work, Node, ProcessorState, NodeMemory, Want, Move, Next, Again, To, Enters, Waits, Leaves, WordOutcome, Running, Ended, lane_after, phase_after, stop_or, word_outcome, Turn, want_in, each_block_once, wants_of, after_word, is_wait, Miss, LaneWork, LanePart, LaneNode, as_node, processors, node_of, lane_of, processor_of, Asked, ask, ask_all, blocks_of, wants_at, word_asked, part_after, reserved_after, holder_after, held_by, have_ended, lost, LaneCore, Exec, event_step, printed_at, picks_at, values_at, IsLicensed}
 use Rattle.rewriting_law.proofs.templates.RegisterLemmas.{equal}
 use Rattle.rewriting_law.proofs.templates.States.{Suits}
 use Rattle.rewriting_law.proofs.words.CodeSide.{AllWanted, Follows}
 use Rattle.rewriting_law.proofs.one_memory.Advances.{Advanced}
 use Rattle.rewriting_law.proofs.one_memory.Sharing.{with_local, is_same, local_here}
 use Rattle.rewriting_law.proofs.one_memory.Pending.{wanted_in}
-use Rattle.home_directory.specs.Table.{Miss}
 use Rattle.rewriting_law.proofs.protocol_side.ProtocolSide.{Handled}
 use Rattle.rewriting_law.proofs.protocol_side.Spending.{Counts}
 use Rattle.rewriting_law.proofs.protocol_side.Directory.{Rest, directory, missed}
 use Rattle.rewriting_law.proofs.protocol_side.DirectorySide.{Layout, is_waiting}
 use Rattle.rewriting_law.proofs.runs.Turns.{SameProcessor, wants_same}
 use Rattle.rewriting_law.proofs.runs.TurnTies.{rest_at, IsTurn, own_wait, AllFound, word_turned}
-use Rattle.lane_model.specs.Nodes.{LaneWork, LanePart, LaneNode, as_node, processors, node_of, lane_of, processor_of}
-use Rattle.lane_model.specs.Turns.{Asked, ask, ask_all, blocks_of, wants_at, word_asked, part_after, reserved_after, holder_after, held_by, have_ended, lost}
-use Rattle.lane_model.specs.Core.{LaneCore, Exec, event_step, printed_at}
-use Rattle.lane_law.specs.Picks.{picks_at, values_at}
-use Rattle.lane_law.specs.Law.{IsLicensed}
 use Rattle.lane_law.proofs.LaneCode.{LaneCode}
 use Rattle.lane_law.proofs.LaneNumbers.{numbered, crowd, room}
-use Rattle.lane_law.proofs.LaneSharing as sharing
+use Rattle.rewriting_law.proofs.one_memory.SharedWords as sharing
 use Rattle.lane_law.proofs.LaneWants as wants
 use Rattle.lane_law.proofs.LaneWants.{IsCovered}
 use Rattle.lane_law.proofs.LaneMatching as matching
@@ -62,8 +40,7 @@ module _ (layout : Shape) where
       either true n m h g = h
       either false n m h g = g
 
-      go : (o : Option ℕ)
-          → SameProcessor t.turn.node (want_in layout t.turn w.need o).node
+      go : (o : Option ℕ) → SameProcessor t.turn.node (want_in layout t.turn w.need o).node
           → SameProcessor t.turn.node (ask layout w.need o t).turn.node
       go None h = itself t.turn.node
       go (Some b) h =
@@ -119,16 +96,14 @@ module _ (layout : Shape) (work : Work) (processors : ℕ) (node_of : ℕ → �
       new : Handled Rest
       new = (directory layout).want (with_local locals i t.handled.local) t.handled.rest i b v.need
 
-      either : (z : Bool)
-          → (new.rest.counts.asked ≤ t.handled.rest.counts.asked + 1)
+      either : (z : Bool) → (new.rest.counts.asked ≤ t.handled.rest.counts.asked + 1)
           × (new.rest.counts.taken ≡ t.handled.rest.counts.taken)
           → ((cond z t.handled new).rest.counts.asked ≤ t.handled.rest.counts.asked + 1)
           × ((cond z t.handled new).rest.counts.taken ≡ t.handled.rest.counts.taken)
       either true h = (omega arith, refl)
       either false h = h
 
-  asks_counts : (vs : List Want) (t : Lane_asked)
-      → AreCounts (length vs) t
+  asks_counts : (vs : List Want) (t : Lane_asked) → AreCounts (length vs) t
       (wants.ask_all layout work processors node_of placed plan (directory layout) locals i t vs)
   asks_counts [] t = (omega arith, refl)
   asks_counts (v ∷ vs) t =
@@ -216,10 +191,7 @@ module _ (w : LaneWork) (plan : List PlanEntry) (lay : Layout w.work) (some : 0 
   follows_found (Leaves e) h = tt
   follows_found (Waits resume want more) h =
       all_found (each_block_once w.work.layout (want ∷ more)) h.1.wanted
-  follows_found Next h = tt
-  follows_found Again h = tt
-  follows_found (To target) h = tt
-  follows_found (Enters target) h = tt
+  follows_found other h = tt
 
   found : AllFound (view c k) i w.work.layout (wants_at w x k)
   found = follows_found r.move (code.word_follows q n.lane n.local suits here.0 here.1)
@@ -316,17 +288,12 @@ module _ (w : LaneWork) (plan : List PlanEntry) (lay : Layout w.work) (some : 0 
       ]) refl e
 
   part_by : (again : Bool) (mv : Move) (y : LanePart) → y.executed ≡ n.executed + 1
-      → y.phase ≡ phase_after w.work.budget (n.executed + 1) mv
-      → (is_wait mv ≡ true → y.awaits
+      → y.phase ≡ phase_after w.work.budget (n.executed + 1) mv → (is_wait mv ≡ true → y.awaits
       ≡ blocks_of w.work.layout (each_block_once w.work.layout (wants_of mv)))
       → y.again ≡ again → IsPartHere (doing_then again mv) y
   part_by again (Leaves e) y words phase awaits anew = (phase, tt)
   part_by again (Waits resume want more) y words phase awaits anew = (phase, awaits refl, anew)
-  part_by again Next y words phase awaits anew = stop_part (n.executed + 1) y words phase
-  part_by again Again y words phase awaits anew = stop_part (n.executed + 1) y words phase
-  part_by again (To target) y words phase awaits anew = stop_part (n.executed + 1) y words phase
-  part_by again (Enters target) y words phase awaits anew =
-      stop_part (n.executed + 1) y words phase
+  part_by again other y words phase awaits anew = stop_part (n.executed + 1) y words phase
 
   -- what a word that waits wants is waited for
   wants_wait : (mv : Move) → r.move ≡ mv → is_wait mv ≡ true → (b : ℕ) (need : Need)
@@ -357,8 +324,7 @@ module _ (w : LaneWork) (plan : List PlanEntry) (lay : Layout w.work) (some : 0 
           subst (λ a. IsCovered (wanted (asked.handled.rest.wait i b)) need
           (matching.again_in w.work.layout w.work (processors w) (node_of w) there plan code
           (protocol w plan lay some code) (side w plan lay some code) (laid w plan lay some code) a))
-          doing_now
-          (event.behind.covered p b need below
+          doing_now (event.behind.covered p b need below
           (ap (λ a. wait_in w.work.layout w.work (processors w) (node_of w) there plan code
           (protocol w plan lay some code) (side w plan lay some code) (laid w plan lay some code) a b)
           doing_now ∙ h))
@@ -367,8 +333,7 @@ module _ (w : LaneWork) (plan : List PlanEntry) (lay : Layout w.work) (some : 0 
   part_is =
       part_by asked.again r.move part same.executed same.phase
       (λ waits. all_still w.work.layout w.work (processors w) (node_of w) there plan (view c k) i
-      t.turn.node.wait (wants_at w x k) found (wants_wait r.move refl waits))
-      is_asked.again
+      t.turn.node.wait (wants_at w x k) found (wants_wait r.move refl waits)) is_asked.again
 
   -- 5. The node after it
 
@@ -400,12 +365,11 @@ module _ (w : LaneWork) (plan : List PlanEntry) (lay : Layout w.work) (some : 0 
   parts_now : (j : ℕ) → part_in w nodes_now j ≡ cond (eqb j p) part (part_in w c.nodes j)
   parts_now j =
       by_lane w plan lay some code c.nodes p node_now (λ y l. y.lanes l) part x.lanes (λ l. refl) j
-      ∙ ap (cond (eqb j p) part)
-      (as_before (λ y l. y.lanes l) (λ a. a) j (eqb (node_of w j) i) refl
+      ∙ ap (cond (eqb j p) part) (as_before (λ y l. y.lanes l) (λ a. a) j (eqb (node_of w j) i) refl
       ∙ either_way (eqb (node_of w j) i) (part_in w c.nodes j))
 
   reserved_now : (j : ℕ) → reserved_in w nodes_now j
-      ≡ sharing.reserved_after w.work.layout w.work (processors w) (node_of w) there reserved p r j
+      ≡ sharing.reserved_after w.work.layout w.work (processors w) (node_of w) there (lost w.work.layout) reserved p r j
   reserved_now j =
       by_lane w plan lay some code c.nodes p node_now (λ y l. y.shared.reservation l)
       r.local.reservation (λ l. lost w.work.layout r.access (x.shared.reservation l)) (λ l. refl) j
@@ -423,8 +387,7 @@ module _ (w : LaneWork) (plan : List PlanEntry) (lay : Layout w.work) (some : 0 
       ])
 
   -- who holds a wait of its node
-  holds_now : (o : Option Wait) (h : ℕ)
-      → processor_of w i (cond (is_some o) h k)
+  holds_now : (o : Option Wait) (h : ℕ) → processor_of w i (cond (is_some o) h k)
       ≡ cond (not (is_some (wanted o))) p (processor_of w i h)
   holds_now None h = numbered w some p
   holds_now (Some have) h = refl
@@ -439,8 +402,7 @@ module _ (w : LaneWork) (plan : List PlanEntry) (lay : Layout w.work) (some : 0 
       waits : wanted (asked.handled.rest.wait i b) ≡ Some need → is_some (t.turn.node.wait b) ≡ true
       waits g = is_waiting (t.turn.node.wait b)
           ∙ ap (λ (f : ℕ → Option Wait). is_some (wanted (f b)))
-          (own_wait (view c k) i t.turn asked.handled is_asked.turned)
-          ∙ ap is_some g
+          (own_wait (view c k) i t.turn asked.handled is_asked.turned) ∙ ap is_some g
 
       go : (z : Bool) → eqb y i ≡ z
           → processor_of w y ((cond z node_now (c.nodes y)).shared.holder b)
@@ -450,8 +412,7 @@ module _ (w : LaneWork) (plan : List PlanEntry) (lay : Layout w.work) (some : 0 
           let same = is_same y i e in
           let is_wait_now = waits (ap (λ j. wanted (asked.handled.rest.wait j b)) (sym same) ∙ h) in
           subst (λ j. processor_of w j (node_now.shared.holder b)
-          ≡ cond (not (is_some (wanted ((c.nodes j).shared.wait b)))) p (holder j b))
-          (sym same)
+          ≡ cond (not (is_some (wanted ((c.nodes j).shared.wait b)))) p (holder j b)) (sym same)
           (ap (λ z. processor_of w i (cond z (holder_after x k b) 0)) is_wait_now
           ∙ holds_now (x.shared.wait b) (x.shared.holder b))
 
@@ -461,7 +422,7 @@ module _ (w : LaneWork) (plan : List PlanEntry) (lay : Layout w.work) (some : 0 
     doing = with_at m.doing p (doing_then asked.again r.move);
     lanes = with_at lanes p (lane_after w.work.image r.lane r.move);
     locals = with_local locals1 i asked.handled.local;
-    reserved = sharing.reserved_after w.work.layout w.work (processors w) (node_of w) there reserved
+    reserved = sharing.reserved_after w.work.layout w.work (processors w) (node_of w) there (lost w.work.layout) reserved
         p r;
     holder = matching.holder_after w.work.layout w.work (processors w) (node_of w) there plan code
         (protocol w plan lay some code) (side w plan lay some code) (laid w plan lay some code) rest
@@ -470,10 +431,7 @@ module _ (w : LaneWork) (plan : List PlanEntry) (lay : Layout w.work) (some : 0 
     parts = λ j low. subst (IsPartHere (with_at m.doing p (doing_then asked.again r.move) j))
         (sym (parts_now j)) (elim (eqb j p)
         as (λ z. IsPartHere (cond z (doing_then asked.again r.move) (m.doing j))
-        (cond z part (part_in w c.nodes j))) [
-          | true ↦ part_is
-          | false ↦ m.parts j low
-        ]);
+        (cond z part (part_in w c.nodes j))) [ true ↦ part_is | false ↦ m.parts j low ]);
     numbers = λ y low. (elim (eqb y i)
         as (λ z. eqb y i ≡ z → (cond z node_now (c.nodes y)).shared.me ≡ y) [
           | true ↦ (λ e. same.me ∙ m.numbers i (there p below) ∙ sym (is_same y i e))
@@ -484,20 +442,14 @@ module _ (w : LaneWork) (plan : List PlanEntry) (lay : Layout w.work) (some : 0 
     holders = λ y b need low h. holders_now y b need h;
     here = λ y. (elim (eqb y i)
         as (λ z. cond z asked.handled.local (cond z r.local (locals y))
-        ≡ cond z asked.handled.local (locals y)) [
-          | true ↦ refl
-          | false ↦ refl
-        ]);
+        ≡ cond z asked.handled.local (locals y)) [ true ↦ refl | false ↦ refl ]);
   }
 
   few_wanted : (mv : Move) → Follows w.work.layout w.work plan code.Stands q n.local r kind mv
       → length (each_block_once w.work.layout (wants_of mv)) ≤ 2
   few_wanted (Leaves e) h = omega arith
   few_wanted (Waits resume want more) h = h.1.few
-  few_wanted Next h = omega arith
-  few_wanted Again h = omega arith
-  few_wanted (To target) h = omega arith
-  few_wanted (Enters target) h = omega arith
+  few_wanted other h = omega arith
 
   abbrev ends : Bool
   ends = have_ended w node_now && not (have_ended w x)
@@ -513,8 +465,7 @@ module _ (w : LaneWork) (plan : List PlanEntry) (lay : Layout w.work) (some : 0 
 
   pub word_leads : LeadsTo w plan lay some code s (picks_at w plan c (Exec p))
       (λ j. values_at w plan j c (Exec p)) (printed_at w c (Exec p)) (WordCounts m.counts)
-      (event_step w c (Exec p))
-      × IsLicensed w plan c (Exec p)
+      (event_step w c (Exec p)) × IsLicensed w plan c (Exec p)
   word_leads = (
     record {
       advanced = event.advanced;

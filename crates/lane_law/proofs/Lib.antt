@@ -1,8 +1,8 @@
+pub mod Names
 -- Several processors on a node: their code, what they share, one event, runs, and progress.
 mod LaneNumbers
 mod Anew
 mod LaneCode
-mod LaneSharing
 mod LaneMessages
 mod LaneWants
 mod LaneWaits

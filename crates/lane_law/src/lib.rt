@@ -1,6 +1,8 @@
 #![tactic(auto)]
 //! Nodes of several processors that run rewritten code do what the original processors do on one
 //! memory. There is no code here.
+//!
+//! It hands on [`dsm_protocol`], by whose law it is proved.
 
 ghost use Rattle.std.specs.Prelude.{◌<◌, ◌≤◌, ℕ, List, length};
 ghost use Rattle.templates.specs.declared.plans.PlanEntry.{PlanEntry};

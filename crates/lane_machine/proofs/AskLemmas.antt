@@ -1,5 +1,5 @@
 -- A want reads and changes the wait of its block alone.
-use Rattle.std.proofs.Common.{◌≡◌, ℕ, ◌<◌, Bool, true, false, cond, eqb, List, [], ◌∷◌, ◌++◌, length, Option, Some, None, refl, sym, ap, ◌∙◌, subst, inl, inr, arith}
+use Rattle.std.proofs.Common.{◌≡◌, ℕ, ◌<◌, Bool, true, false, cond, eqb, List, [], ◌∷◌, ◌++◌, length, Option, Some, None, refl, sym, ap, ◌∙◌, inl, inr, arith}
 use Rattle.std.specs.Prelude.{is_some, option_map}
 use Rattle.std.specs.Option.{option_to_list}
 use Rattle.std.proofs.lemmas.List.{append-nil}
@@ -17,8 +17,7 @@ use Rattle.lane_model.specs.node_model.Turns.{Turn, block_at, with_miss, want_in
 use Rattle.node_machine.specs.ProtocolState.{turn_by}
 use Rattle.node_machine.proofs.WaitLemmas.{none_waits, no_waits}
 use Rattle.lane_model.specs.Turns.{still}
-use Rattle.lane_machine.specs.Waits.{first_in, AtMostOne, waits_for, wait_among, AreApart}
-use Rattle.lane_machine.proofs.WaitLists.{one_of_none}
+use Rattle.lane_machine.specs.Waits.{first_in, waits_for, wait_among}
 
 -- 1. A turn whose node has other waits
 
@@ -35,8 +34,7 @@ pub changed_at : (f : ℕ → Option Wait) (b : ℕ) (v : Option Wait) → chang
 changed_at f b v = let t : eqb b b ≡ true = grind (arith, nat_tests) in rw t refl
 
 module _ (l : Shape) (t : Turn) (need : Need) (b : ℕ) (wait : ℕ → Option Wait) (same : wait b ≡ t.node.wait b) where
-  miss_carried : (o : Option Miss)
-      → with_miss l b need (with_wait t wait) o
+  miss_carried : (o : Option Miss) → with_miss l b need (with_wait t wait) o
       ≡ with_wait (with_miss l b need t o) (changed wait b ((with_miss l b need t o).node.wait b))
   miss_carried None = ap (with_wait t) (sym (changed_same wait b (t.node.wait b) same))
   miss_carried (Some miss) = ap (with_wait (with_miss l b need t (Some miss)))
@@ -60,10 +58,6 @@ first_alone : (o : Option Wait) (os : List (Option Wait)) → first_in os ≡ No
 first_alone None os e = e
 first_alone (Some w) os e = refl
 
-one_alone : (o : Option Wait) (os : List (Option Wait)) → first_in os ≡ None → AtMostOne (o ∷ os)
-one_alone None os e = one_of_none os e
-one_alone (Some w) os e = e
-
 module _ (w w' : NodeWaits) (ws : List NodeWaits) (b : ℕ) (none : wait_among (w ∷ ws) b ≡ None)
     (others : (x : ℕ) → (x ≡ b → ⊥) → wait_of w' x ≡ wait_of w x) where
   rest : first_in (waits_for ws b) ≡ None
@@ -80,12 +74,6 @@ module _ (w w' : NodeWaits) (ws : List NodeWaits) (b : ℕ) (none : wait_among (
     | inl q ↦ rw q.0 (sym begun_here ∙ ap (wait_among (w' ∷ ws)) (sym q.1))
     | inr q ↦ rw q.0 (sym (begun_elsewhere x q.1))
   ])
-
-  pub begun_apart : AreApart (w ∷ ws) → AreApart (w' ∷ ws)
-  begun_apart h x = elim (eqb_tells x b) [
-    | inl q ↦ one_alone (wait_of w' x) (waits_for ws x) (ap (λ z. first_in (waits_for ws z)) q.1 ∙ rest)
-    | inr q ↦ subst (λ o. AtMostOne (o ∷ waits_for ws x)) (sym (others x q.1)) (h x)
-  ]
 
 -- 3. Whether a lane waits
 
@@ -146,7 +134,3 @@ begun_one w w' b o idle some others e = go (wait_of w' b) refl
           | inr q ↦ others x q.1 ∙ none_waits w.waits idle x
         ]) in
         absurd (omega (arith, none, some))
-
-pub some_length : (o : Option ℕ) (ys : List ℕ) → is_some o ≡ true → 0 < length (option_to_list o ++ ys)
-some_length None ys e = absurd (let f : false ≡ true = e in cc)
-some_length (Some b) ys e = omega arith

@@ -1,5 +1,5 @@
 -- The reservations of a node's lanes in a block end, one after another.
-use Rattle.std.proofs.Common.{◌≡◌, ◌≢◌, ℕ, zero, suc, ◌+◌, ◌<◌, ◌≤◌, ◌&&◌, not, Bool, true, false, cond, ltb, List, [], ◌∷◌, length, map, set, get_or, Option, None, refl, sym, ap, ◌∙◌, inl, inr, arith}
+use Rattle.std.proofs.Common.{◌≡◌, ◌≢◌, ℕ, ◌+◌, ◌<◌, ◌&&◌, not, Bool, true, false, cond, ltb, List, length, map, set, get_or, Option, None, refl, sym, ap, ◌∙◌, inl, inr, arith}
 use Rattle.std.proofs.Math.Seq.{map-set_same}
 use Rattle.std.proofs.lemmas.List.{map-set, get_or-map, length-map, get_or-set_same, get_or-set_other}
 use Rattle.std.proofs.lemmas.Bool.Decides.{eqb_tells, nat_tests}
@@ -33,11 +33,6 @@ module _ (ps : List LaneProtocol) (k : ℕ) (p : LaneProtocol) (at : p ≡ get_o
   pub same_pools : pools_in (set ps k (with_reserved p r)) ≡ pools_in ps
   same_pools = map-set_same (λ (x : LaneProtocol). x.pool) ps k (with_reserved p r) p (ap (λ (x : LaneProtocol). x.pool) at)
 
-pub reserved_beyond : (ps : List LaneProtocol) (j : ℕ) → length ps ≤ j → reserved_in ps j ≡ None
-reserved_beyond [] j l = refl
-reserved_beyond (p ∷ ps) zero l = absurd (omega (arith, l))
-reserved_beyond (p ∷ ps) (suc j) l = reserved_beyond ps j (omega (arith, l))
-
 -- 2. So many of them
 
 module _ (l : Shape) (b : ℕ) (s : ℕ → Bool) (old : ℕ → Option ℕ) where
@@ -53,9 +48,6 @@ module _ (l : Shape) (b : ℕ) (s : ℕ → Bool) (old : ℕ → Option ℕ) whe
       go : (t : Bool) → cond (t && false) (cleared l b (old j)) (old j) ≡ old j
       go true = refl
       go false = refl
-
-  pub none_yet : (j : ℕ) → old j ≡ so_far 0 j
-  none_yet j = sym (by_tests false (s j) 0 j (grind (arith, nat_tests)) refl)
 
   pub spared_step : (k : ℕ) (r : ℕ → Option ℕ) → s k ≡ true → ((j : ℕ) → r j ≡ so_far k j) → (j : ℕ) → r j ≡ so_far (k + 1) j
   spared_step k r e h j = elim (eqb_tells j k) [
@@ -83,18 +75,3 @@ module _ (l : Shape) (b : ℕ) (s : ℕ → Bool) (old : ℕ → Option ℕ) whe
 
       one_more : (k : ℕ) → ltb k (k + 1) ≡ true
       one_more k = grind (arith, nat_tests)
-
-  pub all_done : (m j : ℕ) → (m ≤ j → old j ≡ None) → so_far m j ≡ cond (s j) (old j) (cleared l b (old j))
-  all_done m j beyond = go (ltb j m) (s j) refl refl
-    where
-      past : (j m : ℕ) → ltb j m ≡ false → m ≤ j
-      past j m e = grind (arith, nat_tests)
-
-      nothing : (t : Bool) → old j ≡ None → old j ≡ cond t (old j) (cleared l b (old j))
-      nothing true e = refl
-      nothing false e = e ∙ sym (ap (cleared l b) e)
-
-      go : (t u : Bool) → ltb j m ≡ t → s j ≡ u → so_far m j ≡ cond (s j) (old j) (cleared l b (old j))
-      go true true e f = by_tests true true m j e f ∙ sym (ap (λ z. cond z (old j) (cleared l b (old j))) f)
-      go true false e f = by_tests true false m j e f ∙ sym (ap (λ z. cond z (old j) (cleared l b (old j))) f)
-      go false u e f = by_tests false u m j e f ∙ nothing (s j) (beyond (past j m e))

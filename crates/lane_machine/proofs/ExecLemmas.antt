@@ -174,8 +174,7 @@ module _ (l l' : StoredLane) (f f' : StoredShared) (x : LaneNode) (h : HasLane l
       → ((j : ℕ) → (j ≡ k → ⊥) → reserved_in ps' j ≡ reserved_in f.places.items j)
       → ((j : ℕ) → reserved_in f'.places.items j
       ≡ cond (eqb j k) (reserved_in ps' j) (reserved_then (layout_of f.state.body.value) stored (reserved_in ps' j)))
-      → waits_in f'.places.items ≡ waits_in ps'
-      → part_of l' ≡ record {
+      → waits_in f'.places.items ≡ waits_in ps' → part_of l' ≡ record {
         lane = lane_of lane' (word_address done.at);
         executed = l.state.executed + 1;
         phase = phase_by l.state.budget (l.state.executed + 1) done.following;
@@ -216,8 +215,7 @@ module _ (l l' : StoredLane) (f f' : StoredShared) (x : LaneNode) (h : HasLane l
         phase = (whole t).turn.node.phase;
         awaits = still (whole t).turn.node.wait (blocks_of work.layout (each_block_once work.layout (wants_of (word_outcome work (before_is t)).move)));
         again = (whole t).again;
-      })
-      ∙ (λ t. record {
+      }) ∙ (λ t. record {
         lane = after.lane;
         executed = after.executed;
         phase = after.phase;

@@ -29,10 +29,7 @@ some_or (Some y) x = elim (eqb_tells y x) [
 pub one_of_two : (o p : Option ℕ) (x : ℕ) → ((o ≡ Some x → ⊥) → (p ≡ Some x → ⊥) → ⊥) → (o ≡ Some x) ⊎ (p ≡ Some x)
 one_of_two o p x h = elim (some_or o x) [
   | inl e ↦ inl e
-  | inr f ↦ (elim (some_or p x) [
-    | inl e ↦ inr e
-    | inr g ↦ absurd (h f g)
-  ])
+  | inr f ↦ (elim (some_or p x) [ inl e ↦ inr e | inr g ↦ absurd (h f g) ])
 ]
 
 -- the holder's waits have changed for the block that the message names

@@ -130,8 +130,7 @@ module _ (l : StoredLane) (f : StoredShared) (m : StoredLane) (g : StoredShared)
         back_reserved j apart ∙ alone j apart
 
     pub use_alone : IsAlone m g → IsAlone l f
-    use_alone alone j other =
-        sym (back_reserved j other) ∙ alone j (λ e. other (e ∙ back_number))
+    use_alone alone j other = sym (back_reserved j other) ∙ alone j (λ e. other (e ∙ back_number))
 
     -- where none is reserved in use, and no other lane has reserved an address, no lane has
     pub back_free : r ≡ None → IsAlone l f → (j : ℕ) → reserved_in g.places.items j ≡ None
@@ -152,8 +151,7 @@ module _ (l : StoredLane) (f : StoredShared) (m : StoredLane) (g : StoredShared)
       counts = (s.body t).counts;
     }
 
-    wait_there : (b : ℕ)
-        → wait_at g.places.items m.number b ≡ wait_at f.places.items l.number b
+    wait_there : (b : ℕ) → wait_at g.places.items m.number b ≡ wait_at f.places.items l.number b
     wait_there b = wait_at_same f.places.items g.places.items m.number b back_waits
         ∙ ap (λ j. wait_at f.places.items j b) back_number
 
@@ -180,8 +178,7 @@ module _ (l : StoredLane) (f : StoredShared) (m : StoredLane) (g : StoredShared)
     pub use_is : IsShared g → IsShared f
     use_is = shared_still g f.state.body.value f.places.items f
         (sym (ap (λ (x : ExecState). with_use x f.state.body.value) s.body)) refl (sym back_long)
-        (sym back_waits) (sym back_pools)
-        (sym (λ t. record (s.rest t) {
+        (sym back_waits) (sym back_pools) (sym (λ t. record (s.rest t) {
           state = record (s.rest t).state { body = f.state.body };
           places = f.places;
         }))
@@ -276,8 +273,7 @@ module _ (l : StoredLane) (f : StoredShared) (p : LaneProtocol) (x1 x2 : ExecSta
     rest = refl;
   }
 
-  pub put_in_use_is : (own : kept.ProcessorState) → left ≡ l.lane
-      → l.number < length f.places.items
+  pub put_in_use_is : (own : kept.ProcessorState) → left ≡ l.lane → l.number < length f.places.items
       → ArePutBack (record l { lane = own }) shared_then l f
   put_in_use_is own came low =
       let q : LaneProtocol = record p { reservation = r } in
@@ -348,8 +344,7 @@ module _ (l : StoredLane) (f : StoredShared) (x1 : ExecState) (left : kept.Proce
     body = sym (ap (λ (x : ExecState). with_use x f.state.body.value) first);
     places = sym (ap (λ z. set f.places.items l.number (record own_place { reservation = z }))
         (still_none ∙ sym free ∙ reserved_at f.places.items l.number own_place own_at low None)
-        ∙ ap (set f.places.items l.number) own_at
-        ∙ set-get_or f.places.items l.number own_place);
+        ∙ ap (set f.places.items l.number) own_at ∙ set-get_or f.places.items l.number own_place);
     rest = refl;
   }
 
@@ -483,8 +478,7 @@ module _ (m : StoredLane) (g : StoredShared) (b : ExecState) (next : ℕ)
         again = false;
       };
       body = refl;
-      places = (λ t. set (s.places t) (s.lane t).number q2)
-          ∙ set-set g.places.items m.number p q2;
+      places = (λ t. set (s.places t) (s.lane t).number q2) ∙ set-set g.places.items m.number p q2;
       rest = λ t. record (s.rest t) {
         state = record (s.rest t).state {
           body = shared_l.state.body;

@@ -16,3 +16,7 @@ pub mod LanesLemmas
 pub mod StandingLemmas
 pub mod SilentLemmas
 pub mod InUseLemmas
+pub mod NodeLemmas
+pub mod LanesTold
+pub mod FirstNodes
+pub mod NodesInUse

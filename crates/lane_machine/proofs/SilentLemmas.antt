@@ -33,11 +33,11 @@ use Rattle.lane_machine.specs.declared.stored.StoredShared.{StoredShared}
 use Rattle.lane_machine.specs.Waits.{wait_among, place_among, waits_in}
 use Rattle.lane_machine.specs.Words.{stored_by, reserved_after}
 use Rattle.lane_machine.specs.Places.{in_use, pools_in, reserved_in, wait_at}
-use Rattle.lane_machine.specs.Stored.{HasLane, IsAtRest, IsHeld, IsLane, IsShared, WaitsFor, ended_in, lane_turn, part_of, seen_at, served, with_lane, word_asks, work_in, work_of}
+use Rattle.lane_machine.specs.Stored.{HasLane, IsAtRest, IsLane, IsShared, ended_in, lane_turn, part_of, seen_at, served, with_lane, word_asks, work_in, work_of}
 use Rattle.lane_machine.specs.ProtocolStates.{asked_by}
 use Rattle.lane_machine.proofs.ClearLemmas.{reserved_there, same_pools, same_waits}
 use Rattle.lane_machine.proofs.ExecLemmas.{ending_is, going_on, stored_node, turn_is}
-use Rattle.lane_machine.proofs.HoldLemmas.{rest_same, wait_at_same}
+use Rattle.lane_machine.proofs.HoldLemmas.{rest_same}
 use Rattle.lane_machine.proofs.WordLemmas.{apart_used, awaits_is, back_all, idle_is, protocol_used, word_is}
 
 -- 1. As the path that serves every word says it
@@ -127,17 +127,6 @@ module _ (l : StoredLane) (f : StoredShared) (p q : LaneProtocol) (lane' : kept.
   others_then : (j : ℕ) → (j ≡ k → ⊥) → reserved_in (set ps k q) j ≡ reserved_in ps j
   others_then j apart = ap (λ z. reserved_in (set ps k z) j) place ∙ reserved_there ps k p at low q.reservation j apart
 
-  pub same_work : work_of lane_then shared_then ≡ work_of l f
-  same_work = λ t. record {
-    work = record {
-      program = program_of (same_ground t).program;
-      image = l.state.image.now;
-      layout = (same_ground t).layout;
-      budget = l.state.budget;
-    };
-    lanes = length-set ps k q t;
-  }
-
   pub lane_is : IsLane l → l.state.executed + 1 < l.state.budget → IsLane lane_then
   lane_is is below = record {
     state = record {
@@ -163,15 +152,6 @@ module _ (l : StoredLane) (f : StoredShared) (p q : LaneProtocol) (lane' : kept.
         counts = counts_up (32 * f.state.stamp) (32 * (f.state.stamp + 1)) b'.counts (omega arith)
             (subst (AreCountsBelow (32 * f.state.stamp)) (sym counts) is.counts);
       }
-
-  pub waits_for : ((x : ℕ) → wait_at ps k x ≡ None) → WaitsFor lane_then shared_then
-  waits_for idle x there =
-      let none = wait_at_same ps (set ps k q) k x waits_then ∙ idle x in
-      absurd (let bad : false ≡ true = sym (ap is_some none) ∙ there in cc)
-
-  pub is_held : IsHeld lane_then shared_then
-  is_held x (inl e) = absurd (cc)
-  is_held x (inr e) = absurd (cc)
 
   module _ (is : IsShared f) (idle : (x : ℕ) → wait_at ps k x ≡ None) where
     serves : Serves l.state.image.now (next_outcome (program_of b.local.program) l.state.image.now

@@ -74,8 +74,7 @@ module _ (w : LaneWork) (x : LaneNode) (from : ℕ) (wire : Wire) (ls ls' : List
         stamp = later f.state.stamp wire.stamp + 1;
         from = from;
         words = words_of x w.lanes - words_before f.state.journal.items;
-      }) ∷ []
-      → f'.state.output.items ≡ f.state.output.items → length ls' ≡ length ls
+      }) ∷ [] → f'.state.output.items ≡ f.state.output.items → length ls' ≡ length ls
       → f'.ended ≡ count_of (has_ended (after_message w x from wire)) (length f'.places.items)
       → HaveLanes ls' f' (after_message w x from wire)
   message_is parts holders places protocol me local counts byes stamp journal output len ended =
@@ -177,8 +176,7 @@ ended_same [] ls' s old new m len len' was is phases =
 ended_same (l ∷ ls) ls' s old new m len len' was is phases =
     let x = node_with (l ∷ ls) s in
     let y = node_with ls' s in
-    is y (node_has ls' s)
-    ∙ count_same (has_ended x) (has_ended y) m (λ k low. ap is_ended
+    is y (node_has ls' s) ∙ count_same (has_ended x) (has_ended y) m (λ k low. ap is_ended
     (ap (λ (p : LanePart). p.phase) (node_has ls' s k l (let e = len' in omega (arith, low, e)))
     ∙ phases k l low
     ∙ sym (ap (λ (p : LanePart). p.phase) (node_has (l ∷ ls) s k l (let e = len in omega (arith, low, e))))))

@@ -78,16 +78,6 @@ place_put v (o ∷ os) zero l e = refl
 place_put v (None ∷ os) (suc k) l e = ap suc (place_put v os k (omega (arith, l)) e)
 place_put v (Some w ∷ os) (suc k) l e = absurd (some_none w e)
 
-pub place_same : (o : Option Wait) (os : List (Option Wait)) (k : ℕ) → is_some o ≡ is_some (get_or os k None)
-    → place_in (set os k o) ≡ place_in os
-place_same o [] k e = refl
-place_same None (None ∷ os) zero e = refl
-place_same (Some v) (None ∷ os) zero e = absurd (cc)
-place_same None (Some w ∷ os) zero e = absurd (cc)
-place_same (Some v) (Some w ∷ os) zero e = refl
-place_same o (None ∷ os) (suc k) e = ap suc (place_same o os k e)
-place_same o (Some w ∷ os) (suc k) e = refl
-
 -- the one at its place is there
 pub place_has : (os : List (Option Wait)) → is_some (first_in os) ≡ true
     → (place_in os < length os) × (get_or os (place_in os) None ≡ first_in os)
@@ -135,18 +125,6 @@ holder_alone os h = go (is_some (first_in os)) refl
     go : (t : Bool) → is_some (first_in os) ≡ t → first_in (set os (cond t (place_in os) 0) None) ≡ None
     go true e = others_none os (place_in os) h (ap is_some (place_has os e).1 ∙ e)
     go false e = set_none os 0 (none_is (first_in os) e)
-
-pub holder_has : (os : List (Option Wait)) → get_or os (holder os) None ≡ first_in os
-holder_has os = go (is_some (first_in os)) refl
-  where
-    go : (t : Bool) → is_some (first_in os) ≡ t → get_or os (cond t (place_in os) 0) None ≡ first_in os
-    go true e = (place_has os e).1
-    go false e = get_none os 0 (none_is (first_in os) e) ∙ sym (none_is (first_in os) e)
-
-pub set_twice : (os : List (Option Wait)) (k : ℕ) (a b : Option Wait) → set (set os k a) k b ≡ set os k b
-set_twice [] k a b = refl
-set_twice (x ∷ os) zero a b = refl
-set_twice (x ∷ os) (suc k) a b = ap (λ y. x ∷ y) (set_twice os k a b)
 
 -- one is put into an empty place: the first is where it was, or there
 put_there : (v : Wait) (os : List (Option Wait)) (k : ℕ) → k < length os → first_in (set os k (Some v)) ≡ None → ⊥

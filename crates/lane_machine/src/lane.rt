@@ -27,7 +27,7 @@ use exec_map::{End, Program};
 use home_directory::dsm_messages::Sends;
 use node_machine::jump_map::Image;
 use node_machine::node_words::{ExecState, index_of};
-use node_machine::{LaneState, Phase, Standing, Turn, standing_at};
+use node_machine::{BareTurn, LaneState, Phase, Standing, standing_at};
 use run_limits::Budget;
 use rv32_step::Registers;
 use std::alloc::{AllocError, Global};
@@ -51,8 +51,8 @@ impl<'a> Model for Lane<'a> {
 }
 
 impl<'a> Lane<'a> {
-    /// Processor p of so many at the start: lane number `lane` of its node. It executes at most
-    /// `budget` words.
+    /// Processor p at the start: lane number `lane` of its node. It executes at most `budget`
+    /// words.
     pub fn new(
         alloc: Global,
         image: &'a Image,
@@ -135,7 +135,7 @@ impl<'a> Lane<'a> {
     }
 
     /// Executes one word, and leaves what the node sends, in order.
-    pub fn exec(&mut self, shared: &mut Shared<'_>, sends: &mut Sends) -> Turn
+    pub fn exec(&mut self, shared: &mut Shared<'_>, sends: &mut Sends) -> BareTurn
         requires number { self.old.number < length shared.old.places.items }
         requires idle { (b : ℕ) → wait_at shared.old.places.items self.old.number b ≡ None }
         requires may { model.can_execute (part_of self.old).phase ≡ true }
@@ -226,7 +226,7 @@ impl<'a> Lane<'a> {
         requires goes_on { shared.old.ended < length shared.old.places.items }
         requires alone { IsAlone self.old shared.old }
         requires stamp { shared.old.state.stamp < 2 ^ 56 }
-        // The turn is that of the lane which is put back before the word and behind it.
+        // The turn is that of the lane which is put back before the word and after it.
         ensures turn { result ≡ true → (l m : StoredLane) (f g : StoredShared)
             → ArePutBack self.old shared.old l f → ArePutBack self.new shared.new m g
             → (x : lanes.LaneNode) → HasLane l f x → moves.word_turn (work_of l f) x l.number

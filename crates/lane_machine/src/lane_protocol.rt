@@ -41,7 +41,7 @@ pub(crate) fn swap_waits(protocol: &mut ProtocolState, place: &mut LaneProtocol)
     swap(&mut protocol.pool, &mut place.pool);
 }
 
-/// Moves a processor's state to another place. What stays behind belongs to no processor.
+/// Moves a processor's state to another place. What is left there belongs to no processor.
 #[inline(always)]
 pub(crate) fn move_state(from: &mut ProcessorState, to: &mut ProcessorState)
     ensures { to.new ≡ from.old }

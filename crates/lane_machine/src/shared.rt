@@ -33,7 +33,7 @@ use llsc::Reservation;
 use node_machine::miss_handlers::Waits;
 use node_machine::node_words::{ExecState, StoreLog};
 use node_machine::{
-    BUFFER_BYTES, NO_COUNTS, NodeCounts, ProtocolState, SharedState, Standing, Turn, WAITS,
+    BUFFER_BYTES, BareTurn, NO_COUNTS, NodeCounts, ProtocolState, SharedState, Standing, WAITS,
     ended_standing, first_local,
 };
 use rv32_step::Registers;
@@ -139,7 +139,13 @@ impl<'a> Shared<'a> {
     }
 
     /// Takes a message from a node, and leaves what the node sends, in order.
-    pub fn take(&mut self, lanes: &mut [Lane<'_>], from: u8, wire: Wire, sends: &mut Sends) -> Turn
+    pub fn take(
+        &mut self,
+        lanes: &mut [Lane<'_>],
+        from: u8,
+        wire: Wire,
+        sends: &mut Sends,
+    ) -> BareTurn
         requires count { length lanes.old ≡ length self.old.places.items }
         requires room { HasRoom self.old }
         requires stamp { self.old.state.stamp < 2 ^ 56 }
@@ -218,7 +224,7 @@ fn first_protocol(alloc: Global, layout: &Layout, me: u8) -> Result<ProtocolStat
     })
 }
 
-/// What a node keeps for each of so many lanes at the start.
+/// What a node keeps for each of `lanes` lanes at the start.
 fn first_places(alloc: Global, layout: &Layout, lanes: u8) -> Result<Vec<LaneProtocol>, AllocError>
     ensures count { IfOk result (λ v. length v.items ≡ lanes) }
     ensures kept { IfOk result (λ v. AreKept layout.now (waits_in v.items) (pools_in v.items)) }

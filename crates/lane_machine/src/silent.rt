@@ -128,7 +128,7 @@ impl<'a> StoredLane<'a> {
         requires goes_on { shared.old.ended < length shared.old.places.items }
         requires alone { IsAlone self.old shared.old }
         requires stamp { shared.old.state.stamp < 2 ^ 56 }
-        // The lane's turn is that of the lane which is put back before the word and behind it.
+        // The lane's turn is that of the lane which is put back before the word and after it.
         ensures turn { result ≡ true → (l m : StoredLane) (f g : StoredShared)
             → ArePutBack self.old shared.old l f → ArePutBack self.new shared.new m g
             → (x : lanes.LaneNode) → HasLane l f x → moves.word_turn (work_of l f) x l.number

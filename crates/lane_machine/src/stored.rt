@@ -30,7 +30,7 @@ use block_layout::{Block, Layout, layout_law};
 use home_directory::dsm_messages::Sends;
 use node_machine::jump_map::Image;
 use node_machine::node_words::{ExecState, ProcessorState, Served};
-use node_machine::{LaneState, Phase, ProtocolState, SharedState, Turn, add_byes, is_ended};
+use node_machine::{BareTurn, LaneState, Phase, ProtocolState, SharedState, add_byes, is_ended};
 
 /// What a lane stores.
 #[derive(Drop)]
@@ -146,7 +146,7 @@ fn end_reservations(
 
 impl<'a> StoredLane<'a> {
     /// Executes one word, and leaves what the node sends, in order.
-    pub fn exec(&mut self, shared: &mut StoredShared<'_>, sends: &mut Sends) -> Turn
+    pub fn exec(&mut self, shared: &mut StoredShared<'_>, sends: &mut Sends) -> BareTurn
         requires lane { IsLane self.old }
         requires shared { IsShared shared.old }
         requires number { self.old.number < length shared.old.places.items }
@@ -197,7 +197,7 @@ impl<'a> StoredLane<'a> {
         shared.ended = ended_with(shared.ended, self.state.phase);
         let all_ended = shared.ended as usize == shared.places.len();
         add_byes(sends, shared.layout.nodes(), all_ended);
-        Turn {
+        BareTurn {
             stamp: shared.state.stamp,
             output: done.served.output,
         }

@@ -27,7 +27,7 @@ use crate::stored::StoredShared;
 use block_layout::{Block, Layout};
 use home_directory::dsm_messages::{Message, Sends, Wire};
 use node_machine::node_words::ExecState;
-use node_machine::{ProtocolState, Turn, add_byes, handle};
+use node_machine::{BareTurn, ProtocolState, add_byes, handle};
 
 /// Takes a message from a node, and leaves what the node sends, in order.
 pub fn take(
@@ -36,7 +36,7 @@ pub fn take(
     from: u8,
     wire: Wire,
     sends: &mut Sends,
-) -> Turn
+) -> BareTurn
     requires shared { IsShared shared.old }
     requires count { length lanes.old ≡ length shared.old.places.items }
     requires room { HasRoom shared.old }
@@ -78,13 +78,13 @@ pub fn take(
     shared.ended = resume_lanes(lanes, &mut shared.state.body, &shared.places);
     let last = is_last_end(ended_before, shared.ended, lanes.len());
     add_byes(sends, shared.layout.nodes(), last);
-    Turn {
+    BareTurn {
         stamp: shared.state.stamp,
         output: None,
     }
 }
 
-/// Whether the last of so many lanes has ended, when so many had ended before and so many have now.
+/// Whether the last of `lanes` lanes has ended, when `before` had ended before and `now` have now.
 fn is_last_end(before: u8, now: u8, lanes: usize) -> bool
     ensures { result ≡ ((now == lanes) && not (before == lanes)) }
 {

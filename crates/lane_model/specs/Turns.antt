@@ -81,7 +81,7 @@ abbrev pub still : (ℕ → Option Wait) → List ℕ → List ℕ
 still wait [] = []
 still wait (b ∷ bs) = if is_some (wait b) then b ∷ still wait bs else still wait bs
 
--- 3. The end: a node whose lanes have all ended sends its Byes, behind all other messages of that
+-- 3. The end: a node whose lanes have all ended sends its Byes, after all other messages of that
 -- event
 
 abbrev pub has_ended : LaneNode → ℕ → Bool
@@ -158,7 +158,7 @@ word_turn w x k = ending w x (word_before w x k)
 
 -- 5. A message
 
--- a lane that waits for no block any more goes on behind its word, or at the word again; or it is
+-- a lane that waits for no block any more goes on after its word, or at the word again; or it is
 -- stopped by its budget
 abbrev pub resume_part : Work → NodeMemory → LanePart → Phase → List ℕ → LanePart
 resume_part work n p (Waiting resume) [] = record p {
@@ -172,7 +172,7 @@ resume_part work n p phase bs = record p { awaits = bs }
 abbrev pub resumed : Work → Node → LanePart → LanePart
 resumed work n p = resume_part work n.local p p.phase (still n.wait p.awaits)
 
--- what is counted of a lane that goes on behind its word
+-- what is counted of a lane that goes on after its word
 abbrev pub tally_on : NodeMemory → LanePart → Phase → List ℕ → Tally
 tally_on n p (Waiting resume) [] = if p.again then Nothing_counted else tally_resumed n resume
 tally_on n p phase bs = Nothing_counted

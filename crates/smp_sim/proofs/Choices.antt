@@ -223,8 +223,7 @@ pub node_more : (f : LaneEvent → Bool) (g : ℕ → List LaneEvent) (i : ℕ)
 node_more f g i before now old listed more =
     let front = filter f (flat_map g (range_with_len 0 i)) in
     let next : suc i ≡ i + 1 = omega arith in
-    more ∙ ap (λ xs. xs ++ filter f (g i)) listed
-    ∙ append_assoc before front (filter f (g i))
+    more ∙ ap (λ xs. xs ++ filter f (g i)) listed ∙ append_assoc before front (filter f (g i))
     ∙ ap (λ xs. before ++ xs) (sym (longer 0 i i (omega arith)))
     ∙ ap (λ z. before ++ filter f (flat_map g (range_with_len 0 z))) next
   where

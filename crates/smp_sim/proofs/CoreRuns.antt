@@ -75,8 +75,7 @@ event_alike w c d (Exec p) some may a =
     (ap (λ z. word_turn w z (lane_of w p)) (a.nodes (node_of w p) (placed w p some may.0))) a
 event_alike w c d (Take i j) some may a =
     subst (λ ws. AreAlike w.work.layout.nodes (event_step w c (Take i j)) (take_first w d i j ws))
-    (a.lists j i may.1 may.0)
-    (first_alike w w.work.layout.nodes i j c d (c.list j i) may.0 a)
+    (a.lists j i may.1 may.0) (first_alike w w.work.layout.nodes i j c d (c.list j i) may.0 a)
 
 pub may_alike : (w : LaneWork) (c d : LaneCore) (e : LaneEvent) → 0 < w.lanes
     → AreAlike w.work.layout.nodes c d → May w c e → May w d e
@@ -105,8 +104,7 @@ printed_alike w c d (Take i j) some may a = refl
 pub run_append : (w : LaneWork) (c : LaneCore) (es fs : List LaneEvent) → IsLaneRun w c es
     → IsLaneRun w (after w c es) fs → IsLaneRun w c (es ++ fs)
 run_append w c [] fs run more = more
-run_append w c (e ∷ es) fs run more =
-    (run.0, run_append w (event_step w c e) es fs run.1 more)
+run_append w c (e ∷ es) fs run more = (run.0, run_append w (event_step w c e) es fs run.1 more)
 
 pub after_append : (w : LaneWork) (c : LaneCore) (es fs : List LaneEvent)
     → after w c (es ++ fs) ≡ after w (after w c es) fs
@@ -145,8 +143,7 @@ run_then p q run e some same may event output to =
     (event_alike w (core_of p) last e some may to.leads)) in
     let printed : q.output ≡ printed_by w o (run ++ e ∷ []) = output
     ∙ ap₂ (λ xs ys. xs ++ ys) to.output (printed_alike w (core_of p) last e some may to.leads
-    ∙ sym (append_none (printed_at w last e)))
-    ∙ sym (printed_append w o run (e ∷ [])) in
+    ∙ sym (append_none (printed_at w last e))) ∙ sym (printed_append w o run (e ∷ [])) in
     record {
       is_run = subst (λ (v : LaneWork). IsLaneRun v (opening_core v) (run ++ e ∷ [])) (sym same)
           (run_append w o run (e ∷ []) to.is_run (there, tt));

@@ -16,10 +16,12 @@ use Rattle.lane_model.specs.Nodes.{LaneWork, LaneNode, LanePart, as_node, node_o
 use Rattle.lane_model.specs.Turns.{LaneTurn, word_turn, take_turn}
 use Rattle.lane_model.specs.Core.{LaneCore, Exec, Take, standing_in, standing_of, with_turn, with_list, take_first, event_step}
 use Rattle.lane_machine.specs.Stored.{lane_turn}
-use Rattle.smp_sim.specs.declared.node.SmpNode.{SmpNode}
-use Rattle.smp_sim.specs.CoreParts.{AreAlike, AreNodes, AreStored, HasStamps, IsNode, core_with, node_in}
-use Rattle.smp_sim.specs.CoreSteps.{CanExecute, HaveMade}
-use Rattle.smp_sim.proofs.NodeLemmas.{part_at, word_printed}
+use Rattle.lane_machine.specs.declared.node.SmpNode.{SmpNode}
+use Rattle.lane_machine.specs.SmpNodes.{IsNode, node_in}
+use Rattle.smp_sim.specs.CoreParts.{AreAlike, AreNodes, AreStored, HasStamps, core_with}
+use Rattle.lane_machine.specs.SmpNodes.{CanExecute}
+use Rattle.smp_sim.specs.CoreSteps.{HaveMade}
+use Rattle.lane_machine.proofs.NodeLemmas.{part_at, word_printed}
 use Rattle.smp_sim.proofs.CoreRuns.{alike_same}
 
 -- 1. A place of the nodes
@@ -151,8 +153,7 @@ stamps_then w i ns y q1 q2 stamp most posts below es le nodes wires sent = recor
         (wires_of q1 w.work.layout.nodes j k) (wires_to stamp k posts)
         (wider most (wires_of q1 w.work.layout.nodes j k) (wires j k bj bk))
         (sent_within stamp k (most + 1) posts (omega (arith, es, le)))
-    by_list j k bj bk false =
-        wider most (wires_of q1 w.work.layout.nodes j k) (wires j k bj bk)
+    by_list j k bj bk false = wider most (wires_of q1 w.work.layout.nodes j k) (wires j k bj bk)
 
 -- a processor has executed a word
 pub executed : (w : LaneWork) (p : ℕ) (ns0 ns1 : List SmpNode) (q0 q1 q2 : List Queue)
@@ -163,8 +164,7 @@ pub executed : (w : LaneWork) (p : ℕ) (ns0 ns1 : List SmpNode) (q0 q1 q2 : Lis
     → word_turn w (node_in w (node_of w p) x) (lane_of w p)
     ≡ lane_turn (node_in w (node_of w p) y) posts out
     → stamp ≡ y.shared.state.stamp → y.shared.state.stamp ≡ x.shared.state.stamp + 1
-    → node_of w p < w.work.layout.nodes
-    → o1 ≡ o0 → o2 ≡ o1 ++ option_to_list out
+    → node_of w p < w.work.layout.nodes → o1 ≡ o0 → o2 ≡ o1 ++ option_to_list out
     → HaveMade w ns0 (set ns1 (node_of w p) y) q0 q2 o0 o2 (Exec p)
 executed w p ns0 ns1 q0 q1 q2 o0 o1 o2 x y stamp posts out below is same sent turn es next bi
     kept more =
@@ -197,10 +197,8 @@ executed w p ns0 ns1 q0 q1 q2 o0 o1 o2 x y stamp posts out below is same sent tu
 -- a node has taken a message
 pub taken : (w : LaneWork) (i j : ℕ) (ns0 ns1 : List SmpNode) (q0 q1 q2 q3 : List Queue)
     (o0 o1 : List ℕ) (x y : SmpNode) (stamp : ℕ) (posts : List Post) (out : Option ℕ) (wire : Wire)
-    → i < length ns1 → x ≡ get_or ns1 i x
-    → core_with w ns1 q1 ≡ core_with w ns0 q0
-    → IsTaken q1 q2 w.work.layout.nodes j i wire
-    → IsSent q2 q3 w.work.layout.nodes i stamp posts
+    → i < length ns1 → x ≡ get_or ns1 i x → core_with w ns1 q1 ≡ core_with w ns0 q0
+    → IsTaken q1 q2 w.work.layout.nodes j i wire → IsSent q2 q3 w.work.layout.nodes i stamp posts
     → take_turn w (node_in w i x) j wire ≡ lane_turn (node_in w i y) posts out
     → stamp ≡ y.shared.state.stamp → y.shared.state.stamp ≡ later x.shared.state.stamp wire.stamp + 1
     → i < w.work.layout.nodes → j < w.work.layout.nodes → o1 ≡ o0
@@ -226,8 +224,7 @@ taken w i j ns0 ns1 q0 q1 q2 q3 o0 o1 x y stamp posts out wire below is same fir
           (subst (λ (c : LaneCore). AreAlike n (core_with w (set ns1 i y) q3) c)
           (sym (ap (take_first w core i j) first.first))
           (subst (λ (t : LaneTurn). AreAlike n (core_with w (set ns1 i y) q3) (with_turn base i t))
-          (sym here)
-          (turned w i ns1 y q2 q3 stamp posts out base below es alike sent)));
+          (sym here) (turned w i ns1 y q2 q3 stamp posts out base below es alike sent)));
       output = kept ∙ sym (append_none o0);
       stamps = λ most h.
           let old : x.shared.state.stamp ≤ most =

@@ -67,8 +67,7 @@ outcome_is p run o some output ends counts to =
           (λ q. end_of (((core_of p).nodes (node_of w q)).lanes (lane_of w q)).phase)
           0 (processors w)
           (λ q lt. ap (λ (x : LaneNode). end_of (x.lanes (lane_of w q)).phase)
-          (sym (to.leads.nodes (node_of w q) (placed w q some (omega (arith, lt))))))
-          ∙ sym ends;
+          (sym (to.leads.nodes (node_of w q) (placed w q some (omega (arith, lt)))))) ∙ sym ends;
       counts = counts ∙ map_below (λ i. ((core_of p).nodes i).shared.counts)
           (λ i. (last.nodes i).shared.counts) 0 p.layout.nodes
           (λ i lt. ap (λ (x : LaneNode). x.shared.counts) (to.leads.nodes i (omega (arith, lt))));

@@ -1,4 +1,3 @@
-pub mod NodeLemmas
 pub mod CoreRuns
 pub mod CoreSteps
 pub mod Promised
@@ -7,7 +6,5 @@ pub mod Firsts
 pub mod Choices
 pub mod Turns
 pub mod Silent
-pub mod NodesInUse
 pub mod TurnsInUse
 pub mod SilentCore
-pub mod LanesTold

@@ -9,7 +9,7 @@ use Rattle.lane_law.specs.dsm_protocol.Queue.{Queue, wires_of}
 use Rattle.lane_model.specs.Nodes.{LaneWork, LaneNode, processors}
 use Rattle.lane_model.specs.Core.{LaneCore, LaneEvent, May, is_over, opening_core, IsLaneRun, after, printed_by}
 use Rattle.lane_law.specs.Law.{AreAllOver, AreEmpty, GoesOn, RunsOnLanes, most_lane_events}
-use Rattle.smp_sim.specs.declared.node.SmpNode.{SmpNode}
+use Rattle.lane_machine.specs.declared.node.SmpNode.{SmpNode}
 use Rattle.smp_sim.specs.CoreParts.{AreAlike, AreStored, CoreParts, HasStamps, HasStampsInRange, IsCore, IsRunTo, IsWork, core_of, core_with, work_of}
 use Rattle.smp_sim.specs.CoreSteps.{AreFirst, HaveKept, HaveMade}
 use Rattle.smp_sim.proofs.CoreRuns.{alike_back, may_alike, run_then}
@@ -82,8 +82,7 @@ pub lists_empty : (p : CoreParts) → RunsEndEmpty → IsCore p → AreAllOver (
 lists_empty p law is over j i bj bi =
     let w = work_of p in
     let l = is.leads in
-    l.leads.lists j i bj bi
-    ∙ law w is.work.rewritten.plan is.run (runs_on w is.work) l.is_run
+    l.leads.lists j i bj bi ∙ law w is.work.rewritten.plan is.run (runs_on w is.work) l.is_run
     (λ k bk. subst (λ (x : LaneNode). is_over w x ≡ true) (l.leads.nodes k bk) (over k bk)) j i bj bi
 
 -- 2. From event to event
@@ -93,8 +92,7 @@ parts_after p ns qs out = record p { nodes = ns; lists = qs; output = out }
 
 pub is_made : (p : CoreParts) (ns : List SmpNode) (qs : List Queue) (out : List ℕ) (e : LaneEvent)
     → IsCore p → May (work_of p) (core_of p) e → AreStored (work_of p) ns qs
-    → HaveMade (work_of p) p.nodes ns p.lists qs p.output out e
-    → IsCore (parts_after p ns qs out)
+    → HaveMade (work_of p) p.nodes ns p.lists qs p.output out e → IsCore (parts_after p ns qs out)
 is_made p ns qs out e is may are made =
     record {
       work = is.work;
@@ -136,8 +134,7 @@ run_same p q work core output run to = record {
       (after v (opening_core v) run)) (sym work)
       (subst (λ (c : LaneCore). AreAlike p.layout.nodes c
       (after (work_of p) (opening_core (work_of p)) run)) (sym core) to.leads);
-  output = output ∙ to.output
-      ∙ ap (λ (v : LaneWork). printed_by v (opening_core v) run) (sym work);
+  output = output ∙ to.output ∙ ap (λ (v : LaneWork). printed_by v (opening_core v) run) (sym work);
 }
 
 pub is_stepped : {A E : Type 0} (r : Result A E) (p : CoreParts) (ns : List SmpNode)

@@ -5,10 +5,10 @@ use Rattle.std.proofs.lemmas.List.{append-nil}
 use Rattle.std.proofs.Math.Path.{fun_ext}
 use Rattle.std.proofs.lemmas.Bool.Decides.{eqb_tells, nat_tests}
 use Rattle.lane_model.specs.node_model.declared.Standing.TheVariants as standing
-use Rattle.lane_model.specs.node_model.Node.{Phase, Running, Resumed, Waiting, Ended, can_execute, is_at_poll}
-use Rattle.lane_model.specs.node_model.Core.{may_execute, may_take, wires_to}
+use Rattle.lane_model.specs.node_model.Node.{Phase, Running, Resumed, Waiting, Ended, can_execute}
+use Rattle.lane_model.specs.node_model.Core.{may_take, wires_to}
 use Rattle.home_directory.specs.dsm_messages.declared.messages.Wire.{Wire}
-use Rattle.lane_model.specs.Nodes.{LaneNode, LanePart, LaneWork, all_lanes, as_node, lane_of, node_of, some_lane}
+use Rattle.lane_model.specs.Nodes.{LaneNode, LanePart, LaneWork, all_lanes, lane_of, node_of, some_lane}
 use Rattle.lane_model.specs.Turns.{LaneTurn, have_ended, word_before, word_turn}
 use Rattle.lane_model.specs.Core.{LaneCore, LaneEvent, Exec, Take, May, event_step, lane_lets, lowers_first, may_take_first, standing_in, standing_of}
 use Rattle.shared_sim.specs.ByOrder.{has_wire}
@@ -18,20 +18,8 @@ use Rattle.smp_sim.specs.ByOrder.{all_events, choices, is_allowed}
 use Rattle.smp_sim.specs.Listing.{IsThere}
 use Rattle.smp_sim.proofs.Choices.{all_there, choices_alike, same_filtered}
 use Rattle.smp_sim.proofs.CoreRuns.{placed}
-use Rattle.smp_sim.proofs.LanesTold.{and_false, lane_not}
-use Rattle.smp_sim.proofs.NodeLemmas.{byes_node}
-
--- whether a lane may execute a word is told by its phase
-pub may_is : (w : LaneWork) (x : LaneNode) (k : ℕ) (p : Phase)
-    → may_execute (standing_in w x k p) ≡ can_execute p
-may_is w x k Running = go (is_at_poll w.work (as_node x k))
-  where
-    go : (b : Bool) → may_execute (cond b standing.AtPoll standing.Running) ≡ true
-    go true = refl
-    go false = refl
-may_is w x k Resumed = refl
-may_is w x k (Waiting r) = refl
-may_is w x k (Ended e) = refl
+use Rattle.lane_machine.proofs.LanesTold.{and_false, lane_not, may_is}
+use Rattle.lane_machine.proofs.NodeLemmas.{byes_node}
 
 -- what a lane may do next is told by its own part
 pub stands_same : (w : LaneWork) (x y : LaneNode) (k : ℕ) → x.lanes k ≡ y.lanes k

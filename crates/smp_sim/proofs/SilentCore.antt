@@ -7,10 +7,12 @@ use Rattle.lane_model.specs.Turns.{LaneTurn, word_turn}
 use Rattle.lane_model.specs.Core.{Exec, LaneEvent, May, event_step}
 use Rattle.lane_machine.specs.declared.stored.StoredLane.{StoredLane}
 use Rattle.lane_machine.specs.Stored.{lane_turn}
-use Rattle.smp_sim.specs.declared.node.SmpNode.{SmpNode}
-use Rattle.smp_sim.specs.CoreParts.{AreAlike, AreStored, CoreParts, IsCore, IsNode, IsRunTo, core_of, node_in, work_of}
-use Rattle.smp_sim.specs.CoreSteps.{CanExecute, HaveKept, HaveMade, IsSilent}
-use Rattle.smp_sim.proofs.NodeLemmas.{by_answer, part_at}
+use Rattle.lane_machine.specs.declared.node.SmpNode.{SmpNode}
+use Rattle.lane_machine.specs.SmpNodes.{IsNode, node_in}
+use Rattle.smp_sim.specs.CoreParts.{AreAlike, AreStored, CoreParts, IsCore, IsRunTo, core_of, work_of}
+use Rattle.lane_machine.specs.SmpNodes.{CanExecute}
+use Rattle.smp_sim.specs.CoreSteps.{HaveKept, HaveMade, IsSilent}
+use Rattle.lane_machine.proofs.NodeLemmas.{by_answer, part_at}
 use Rattle.smp_sim.proofs.CoreRuns.{lane_low, placed, run_then}
 use Rattle.smp_sim.proofs.CoreSteps.{core_same, executed, no_posts, node_at, read_at, set_same, stored_then}
 use Rattle.smp_sim.proofs.Promised.{is_kept, is_made}

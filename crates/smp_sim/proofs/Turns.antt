@@ -36,13 +36,9 @@ turns_more number (x ∷ es) e = turns_more (following number) es e
 
 -- 2. From the start to a core
 
-pub leads_none : (first : ℕ) (p : CoreParts) → IsRunTo [] p → LeadsTo first 0 first p
-leads_none first p to = record { events = []; many = omega arith; picked = tt; numbers = refl; run = to }
-
 -- by one event more
 pub leads_more : (first turns last next : ℕ) (p q : CoreParts) (e : LaneEvent) → 0 < p.lanes
-    → work_of q ≡ work_of p
-    → pick_among (choices (work_of p) (core_of p)) (following last) ≡ Some e
+    → work_of q ≡ work_of p → pick_among (choices (work_of p) (core_of p)) (following last) ≡ Some e
     → next ≡ following last
     → ((run : List LaneEvent) → IsRunTo run p → IsRunTo (run ++ e ∷ []) q)
     → LeadsTo first turns last p → LeadsTo first (turns + 1) next q
@@ -85,13 +81,6 @@ leads_then first turns number next p q r e some same stops more to =
     (leads_more first (turns + 0) stops.last next q r e some same
     (ap (pick_among (choices (work_of q) (core_of q))) (sym stops.follows) ∙ stops.picked)
     stops.follows more (stops.leads first turns to))
-
--- what is picked from a list of the choices
-pub picked_here : (w : LaneWork) (c : LaneCore) (items listed : List Stored) (number : ℕ) (e : LaneEvent)
-    → items ≡ listed → map event_of listed ≡ choices w c
-    → pick_among (map event_of items) number ≡ Some e → pick_among (choices w c) number ≡ Some e
-picked_here w c items listed number e same are here =
-    ap (λ xs. pick_among xs number) (sym (ap (map event_of) same ∙ are)) ∙ here
 
 pub picked_may : (w : LaneWork) (c : LaneCore) (number : ℕ) (e : LaneEvent)
     → pick_among (choices w c) number ≡ Some e → May w c e

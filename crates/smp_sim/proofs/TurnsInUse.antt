@@ -8,17 +8,20 @@ use Rattle.lane_model.specs.Nodes.{LaneNode, LaneWork, lane_of, node_of, opening
 use Rattle.lane_model.specs.Core.{Exec, LaneEvent, May, standing_of}
 use Rattle.lane_law.specs.dsm_protocol.Queue.{Queue, wires_of}
 use Rattle.smp_sim.specs.declared.cores.SmpEvent.{SmpEvent as Stored}
-use Rattle.smp_sim.specs.declared.node.SmpNode.{SmpNode}
-use Rattle.smp_sim.specs.declared.work.SmpWork.{SmpWork}
-use Rattle.smp_sim.specs.CoreParts.{AreStored, CoreParts, IsCore, IsNode, IsRunTo, core_of, core_with, event_of, lane_work, node_in, parts_of}
+use Rattle.lane_machine.specs.declared.node.SmpNode.{SmpNode}
+use Rattle.lane_machine.specs.declared.work.SmpWork.{SmpWork}
+use Rattle.lane_machine.specs.SmpNodes.{IsNode, lane_work, node_in}
+use Rattle.smp_sim.specs.CoreParts.{AreStored, CoreParts, IsCore, IsRunTo, core_of, core_with, event_of, parts_of}
 use Rattle.smp_sim.specs.ByOrder.{choices, pick_among}
-use Rattle.smp_sim.specs.CoreSteps.{CanExecute, IsShut}
-use Rattle.smp_sim.specs.InUse.{AreAtRest, AreSameNodes, HasTurned, HaveRests, HaveTurned, MayTurn, MayTurnOn, RestsAs}
+use Rattle.lane_machine.specs.SmpNodes.{CanExecute}
+use Rattle.smp_sim.specs.CoreSteps.{IsShut}
+use Rattle.lane_machine.specs.SmpNodesInUse.{HasTurned, MayTurn, RestsAs}
+use Rattle.smp_sim.specs.InUse.{AreAtRest, AreSameNodes, HaveRests, HaveTurned, MayTurnOn}
 use Rattle.smp_sim.specs.Turns.{LeadsOn, StopsAt}
 use Rattle.smp_sim.proofs.CoreRuns.{lane_low, placed}
 use Rattle.smp_sim.proofs.CoreSteps.{can_execute_by, core_same, read_at}
-use Rattle.smp_sim.proofs.NodesInUse.{same_in, same_is}
-use Rattle.smp_sim.proofs.NodeLemmas.{by_answer}
+use Rattle.lane_machine.proofs.NodesInUse.{same_in, same_is}
+use Rattle.lane_machine.proofs.NodeLemmas.{by_answer}
 use Rattle.smp_sim.proofs.Promised.{AreShort, in_range, is_kept, run_same}
 use Rattle.smp_sim.proofs.Silent.{silent_choices}
 use Rattle.smp_sim.proofs.SilentCore.{core_kept, core_then, event_then, run_on, silent_then}
@@ -184,8 +187,7 @@ module _ (w : SmpWork) (lists : List Queue) (ys : List SmpNode) (out : List ℕ)
           (core_of (parts_of w zs lists out))
           (event_then p r y z done core may at t.node t.turn t.may t.stamps t.same yes)
           (λ j low. subst (λ (n : LaneNode). IsShut v n k (wires_of lists w.layout.now.nodes j i))
-          (sym there) (shut j low)))
-          (λ no. ap (choices v)
+          (sym there) (shut j low))) (λ no. ap (choices v)
           (core_kept p r y z done core may at t.node t.turn t.may t.stamps t.same no));
       made = run_on p r y z done core may at t.node t.turn t.may t.stamps t.same;
       kept = λ no. run_same p (parts_of w zs lists out) refl
@@ -376,8 +378,7 @@ module _ (w : SmpWork) (lists : List Queue) (start : List SmpNode) (out : List �
     (events : List Stored) (turns first last : ℕ) (xs : List SmpNode) (used : List (Option ℕ))
     (way : AreOnTheWay w lists start out events turns first last xs used) (some : 1 ≤ turns)
     (ys : List SmpNode) (same : AreSameNodes way.rests ys) where
-  pub ended_listed : map event_of events
-      ≡ choices (lane_work w) (core_with (lane_work w) ys lists)
+  pub ended_listed : map event_of events ≡ choices (lane_work w) (core_with (lane_work w) ys lists)
   ended_listed = way.listed
       ∙ ap (choices (lane_work w)) (sym (same_core w lists way.rests ys out same way.core))
 

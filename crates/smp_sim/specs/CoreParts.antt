@@ -1,22 +1,21 @@
 -- Nodes of several processors that run rewritten code and the lists between them, as they are
 -- stored, and the core that they stand for.
-use Rattle.std.specs.Prelude.{◌≡◌, ℕ, ◌^◌, ◌<◌, ◌≤◌, true, List, [], map, length, slice_index_or, All}
+use Rattle.std.specs.Prelude.{◌≡◌, ℕ, ◌^◌, ◌<◌, ◌≤◌, true, List, map, length, slice_index_or, All}
 use Rattle.home_directory.specs.dsm_messages.declared.messages.Wire.{Wire}
-use Rattle.lane_model.specs.node_model.Node.{Work, can_execute}
+use Rattle.lane_model.specs.node_model.Node.{Work}
 use Rattle.dsm_core.specs.rewriting_law.Bounds.{RunsRewritten}
 use Rattle.lane_law.specs.dsm_protocol.Queue.{Queue, wires_of, AreQueues}
 use Rattle.dsm_core.specs.CoreParts.{work_with as plain_work}
 use Rattle.elf32_read.specs.Elf.{Elf}
 use Rattle.block_layout.specs.Layout.{Shape}
 use Rattle.lane_model.specs.jump_map.Image.{Cell}
-use Rattle.lane_model.specs.Nodes.{LaneWork, LaneNode, processors, processor_of, first_part, opening_node}
+use Rattle.lane_model.specs.Nodes.{LaneWork, processors, opening_node}
 use Rattle.lane_model.specs.Core.{LaneCore, LaneEvent, Exec, Take, IsLaneRun, after, opening_core, printed_by}
-use Rattle.lane_machine.specs.declared.stored.StoredLane.{StoredLane}
-use Rattle.lane_machine.specs.Stored.{AllHeld, AllWaitFor, AreLanes, HaveParts, ended_in, part_of, shared_of}
 use Rattle.smp_sim.specs.declared.cores.SmpEvent as chosen
 use Rattle.smp_sim.specs.declared.cores.SmpEvent.TheVariants as choice
-use Rattle.smp_sim.specs.declared.node.SmpNode.{SmpNode}
-use Rattle.smp_sim.specs.declared.work.SmpWork.{SmpWork}
+use Rattle.lane_machine.specs.declared.node.SmpNode.{SmpNode}
+use Rattle.lane_machine.specs.SmpNodes.{IsNode, node_in}
+use Rattle.lane_machine.specs.declared.work.SmpWork.{SmpWork}
 
 -- what the processors run; the nodes, the lists, and the bytes printed
 pub record CoreParts : Type 0 where
@@ -32,9 +31,6 @@ pub record CoreParts : Type 0 where
 abbrev pub work_with : Work → (lanes : ℕ) → LaneWork
 work_with work lanes = record { work = work; lanes = lanes }
 
-abbrev pub lane_work : SmpWork → LaneWork
-lane_work w = work_with (plain_work w.program.now w.image.now w.layout.now w.budget) w.lanes
-
 abbrev pub work_of : CoreParts → LaneWork
 work_of p = work_with (plain_work p.program p.image p.layout p.budget) p.lanes
 
@@ -49,13 +45,6 @@ parts_of w nodes lists output = record {
   nodes = nodes;
   lists = lists;
   output = output;
-}
-
--- node i of these lanes and what they share; beyond the last lane it is as at the start
-abbrev pub node_in : LaneWork → (i : ℕ) → SmpNode → LaneNode
-node_in w i x = record {
-  lanes = λ k. slice_index_or (map part_of x.lanes.items) k (first_part w (processor_of w i k));
-  shared = shared_of x.shared;
 }
 
 -- the core of these nodes and lists; beyond the last node it is as at the start
@@ -83,17 +72,6 @@ pub record IsRunTo (run : List LaneEvent) (p : CoreParts) : Type 0 where
   pub leads : AreAlike p.layout.nodes (core_of p)
       (after (work_of p) (opening_core (work_of p)) run)
   pub output : p.output ≡ printed_by (work_of p) (opening_core (work_of p)) run
-
--- the lanes of a node in order, and what they share, of which one that may execute a word waits for
--- no block
-pub record IsNode (w : LaneWork) (x : SmpNode) : Type 0 where
-  pub lanes : AreLanes w x.lanes.items x.shared
-  pub waits : AllWaitFor x.lanes.items x.shared
-  pub held : AllHeld x.lanes.items x.shared
-  pub ended : (y : LaneNode) → HaveParts x.lanes.items y → x.shared.ended ≡ ended_in y w.lanes
-  pub idle : (k : ℕ) (d : StoredLane) → k < w.lanes
-      → can_execute (part_of (slice_index_or x.lanes.items k d)).phase ≡ true
-      → (part_of (slice_index_or x.lanes.items k d)).awaits ≡ []
 
 abbrev pub AreNodes : LaneWork → List SmpNode → Type 0
 AreNodes w nodes = (i : ℕ) (d : SmpNode) → i < length nodes → IsNode w (slice_index_or nodes i d)

@@ -22,7 +22,7 @@ pub record LeadsTo (first turns last : ℕ) (p : CoreParts) : Type 0 where
   pub numbers : last ≡ after_turns (length events) first
   pub run : IsRunTo events p
 
--- at least so many turns lead from one core to another: the order picks them behind those that lead
+-- at least so many turns lead from one core to another: the order picks them after those that lead
 -- from the start to the first
 abbrev pub LeadsOn : (least number : ℕ) → CoreParts → (last : ℕ) → CoreParts → Type 0
 LeadsOn least number p last q =

@@ -21,7 +21,7 @@ use lane_machine::Standing;
 use random_order::{Order, order_of};
 use std::alloc::{AllocError, Global};
 
-/// Runs the nodes of a layout, each of so many processors, to their ends, on one thread: at each
+/// Runs the nodes of a layout, each of `lanes` processors, to their ends, on one thread: at each
 /// turn the order of a number picks one of the events that are allowed, which are listed with the
 /// words of all processors first, and then the takes of each node by sender.
 pub fn smp_simulate(

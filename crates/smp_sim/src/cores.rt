@@ -9,28 +9,27 @@ ghost use Rattle.lane_model.specs.Core as model;
 ghost use Rattle.lane_model.specs.Core.{May, event_step, opening_core, standing_of};
 ghost use Rattle.lane_law.specs.Law.{AreAllOver, AreEmpty, GoesOn, most_lane_events};
 ghost use Rattle.dsm_core.specs.CoreParts.{work_in};
-ghost use Rattle.smp_sim.specs.CoreParts.{AreAlike, IsNode, IsRunTo, core_of, event_of, node_in};
+ghost use Rattle.lane_machine.specs.SmpNodes.{IsNode, node_in};
+ghost use Rattle.smp_sim.specs.CoreParts.{AreAlike, IsRunTo, core_of, event_of};
 ghost use Rattle.smp_sim.specs.CoreParts.{work_of, work_with};
 ghost use Rattle.smp_sim.specs.CoreSteps.{IsSilent};
 ghost use Rattle.smp_sim.specs.ByOrder.{choices};
 ghost use Rattle.smp_sim.specs.Turns.{LeadsOn, StopsAt};
 
-use crate::node::SmpNode;
 use crate::runs::run_silent;
-use crate::steps::{are_over, first_nodes, has_mail, is_enabled, make};
-use crate::work::SmpWork;
+use crate::steps::{are_over, first_nodes, is_enabled, make};
 use dsm_core::Work;
 use home_directory::dsm_messages::Sends;
 use lane_law::dsm_protocol::Queue;
-use lane_law::dsm_protocol::lists::empty_lists;
+use lane_law::dsm_protocol::lists::{empty_lists, has_mail};
 use lane_law::lane_progress_law;
-use lane_machine::Standing;
+use lane_machine::{SmpNode, SmpWork, Standing};
 use random_order::Order;
 use std::alloc::{AllocError, Global};
 use std::marker::Model;
 
 /// What may happen next in a core.
-#[derive(Clone, Copy, Debug, PartialEq, Eq)]
+#[derive(Clone, Copy, PartialEq, Eq)]
 pub enum SmpEvent {
     /// A processor executes a word.
     Exec(u8),
@@ -87,7 +86,7 @@ impl<'a> Model for SmpCore<'a> {
 }
 
 impl<'a> SmpCore<'a> {
-    /// The nodes of a layout at the start, each with so many processors, and empty lists.
+    /// The nodes of a layout at the start, each with `lanes` processors, and empty lists.
     pub fn new(alloc: Global, work: &Work<'a>, lanes: u8) -> Result<SmpCore<'a>, AllocError>
         requires rewritten { RunsRewritten (work_in work.now) }
         requires some { 1 ≤ lanes }
@@ -186,7 +185,7 @@ impl<'a> SmpCore<'a> {
         ensures event { OnOk result (AreAlike self.old.layout.nodes
             (core_of self.new)
             (event_step (work_of self.old) (core_of self.old) (event_of event))) }
-        // A run that leads to the core does so with this event behind it.
+        // A run that leads to the core does so with this event after it.
         ensures run { OnOk result ((run : List model.LaneEvent) → IsRunTo run self.old
             → IsRunTo (run ++ event_of event ∷ []) self.new) }
         ensures err { OnErr result (core_of self.new ≡ core_of self.old) }
@@ -206,7 +205,7 @@ impl<'a> SmpCore<'a> {
 
     /// A processor that may execute a word does so by its micro-op, where that serves it and no
     /// other processor of its node has reserved an address, and says whether it did. The word sends
-    /// nothing, and the processor may execute another behind it. Otherwise nothing changes.
+    /// nothing, and the processor may execute another after it. Otherwise nothing changes.
     pub(crate) fn exec_silent(&mut self, processor: u8) -> bool
         requires enabled { May (work_of self.old) (core_of self.old) (model.Exec processor) }
         ensures silent { result ≡ true → IsSilent (work_of self.old) (core_of self.old) processor }
@@ -237,8 +236,8 @@ impl<'a> SmpCore<'a> {
     }
 
     /// Makes the turns that an order picks next among the events that are listed, as long as each
-    /// is a word by its micro-op and its node takes no message behind it. It gives the event that
-    /// is picked behind them, which isn't made, or `None` after many turns.
+    /// is a word by its micro-op and its node takes no message after it. It gives the event that
+    /// is picked after them, which isn't made, or `None` after many turns.
     pub(crate) fn run_silent(&mut self, events: &[SmpEvent], order: &mut Order) -> Option<SmpEvent>
         requires some { 1 ≤ length events.now }
         requires few { length events.now ≤ 65536 }

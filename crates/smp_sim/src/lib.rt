@@ -5,11 +5,9 @@
 mod by_order;
 mod cores;
 mod listing;
-mod node;
 mod outcome;
 mod runs;
 mod steps;
-mod work;
 
 pub use by_order::smp_simulate;
 pub use cores::{SmpCore, SmpEvent};

@@ -7,21 +7,23 @@ ghost use Rattle.lane_law.specs.dsm_protocol.Queue.{AreQueues, wires_of};
 ghost use Rattle.lane_model.specs.Core as model;
 ghost use Rattle.lane_model.specs.Core.{May};
 ghost use Rattle.lane_model.specs.Nodes.{LaneWork};
-ghost use Rattle.smp_sim.specs.CoreParts.{AreNodes, IsCore, IsNode, core_of, core_with, event_of};
-ghost use Rattle.smp_sim.specs.CoreParts.{lane_work, node_in, parts_of};
+ghost use Rattle.lane_machine.specs.SmpNodes.{IsNode};
+ghost use Rattle.smp_sim.specs.CoreParts.{AreNodes, IsCore, core_of, core_with, event_of};
+ghost use Rattle.lane_machine.specs.SmpNodes.{lane_work, node_in};
+ghost use Rattle.smp_sim.specs.CoreParts.{parts_of};
 ghost use Rattle.smp_sim.specs.CoreSteps.{IsShut};
 ghost use Rattle.smp_sim.specs.ByOrder.{choices, pick_among};
 ghost use Rattle.smp_sim.specs.InUse.{AreAtRest, AreSameNodes, HaveRests, HaveTurned};
 ghost use Rattle.smp_sim.specs.InUse.{MayTurnOn};
 ghost use Rattle.smp_sim.specs.Turns.{LeadsOn, StopsAt};
-ghost use Rattle.smp_sim.specs.declared.node.SmpNode.{SmpNode};
+ghost use Rattle.lane_machine.specs.declared.node.SmpNode.{SmpNode};
 
 use crate::cores::SmpEvent;
-use crate::node::SmpNode;
-use crate::steps::{all_take_away, has_mail};
-use crate::work::SmpWork;
+use crate::steps::all_take_away;
 use lane_law::dsm_protocol::Queue;
+use lane_law::dsm_protocol::lists::has_mail;
 use lane_law::lane_progress_law;
+use lane_machine::{SmpNode, SmpWork};
 use random_order::Order;
 
 /// How many turns are made at most, before the lanes in use are put back.
@@ -49,7 +51,13 @@ fn is_quiet(lists: &[Queue], count: u8, used: Option<u8>, node: u8) -> bool
         → (from : ℕ) → from < count → wires_of lists.now count from node ≡ [] }
     ensures none { result ≡ false → used ≡ None }
 {
-    used.is_some() || !has_mail(lists, count, node)
+    if used.is_some() {
+        return true;
+    }
+    if has_mail(lists, count, node) {
+        return false;
+    }
+    true
 }
 
 /// Whether a node takes no message that is on its way to it, whatever a lane does: each takes
@@ -69,7 +77,7 @@ fn is_shut(node: &SmpNode<'_>, lists: &[Queue], count: u8, number: u8, lanes: u8
 }
 
 /// A processor that may execute a word does so by its micro-op, where that serves it, its node
-/// takes no message behind it and no other lane has reserved an address, and says whether it did.
+/// takes no message after it and no other lane has reserved an address, and says whether it did.
 #[inline(always)]
 fn turn(
     nodes: &mut Vec<SmpNode<'_>>,
@@ -136,8 +144,8 @@ fn put_back(nodes: &mut Vec<SmpNode<'_>>, used: &mut [Option<u8>; 16])
 }
 
 /// Makes the turns that an order picks next among the events that are listed, as long as each is a
-/// word by its micro-op and its node takes no message behind it. It gives the event that is picked
-/// behind them, which isn't made, or `None` after many turns.
+/// word by its micro-op and its node takes no message after it. It gives the event that is picked
+/// after them, which isn't made, or `None` after many turns.
 pub(crate) fn run_silent(
     nodes: &mut Vec<SmpNode<'_>>,
     lists: &[Queue],

@@ -1,6 +1,6 @@
 //! Events of nodes of several processors, and of the lists between them.
 
-ghost use Rattle.std.specs.Prelude.{◌≡◌, ◌≢◌, ◌<◌, ◌≤◌, ◌↔◌, ◌++◌, ℕ, [], true, false, length};
+ghost use Rattle.std.specs.Prelude.{◌≡◌, ◌<◌, ◌≤◌, ◌↔◌, ◌++◌, ℕ, true, false, length};
 ghost use Rattle.std.specs.Prelude.{IfOk, OnOk, OnErr};
 ghost use Rattle.std.specs.Option.{option_to_list};
 ghost use Rattle.std.specs.Vec.{vec_capacity};
@@ -11,15 +11,14 @@ ghost use Rattle.lane_model.specs.Core as model;
 ghost use Rattle.lane_model.specs.Core.{May};
 ghost use Rattle.lane_law.specs.Law.{AreAllOver};
 ghost use Rattle.smp_sim.specs.CoreParts.{AreStored, HasStampsInRange, core_with, event_of};
-ghost use Rattle.smp_sim.specs.CoreParts.{lane_work};
+ghost use Rattle.lane_machine.specs.SmpNodes.{lane_work};
 ghost use Rattle.smp_sim.specs.CoreSteps.{AreFirst, HaveKept, HaveMade, HasNodeRoom, TakeAway};
 
 use crate::cores::SmpEvent;
-use crate::node::{SmpNode, takes_away};
-use crate::work::SmpWork;
 use home_directory::dsm_messages::Sends;
 use lane_law::dsm_protocol::Queue;
 use lane_law::dsm_protocol::lists::{first_wire, reserve_from, send, take_first};
+use lane_machine::{SmpNode, SmpWork, takes_away};
 use std::alloc::{AllocError, Global};
 
 /// The nodes at the start.
@@ -113,34 +112,6 @@ fn can_take(nodes: &[SmpNode<'_>], lists: &[Queue], work: &SmpWork<'_>, node: u8
         Some(wire) => nodes[node as usize].can_take(work.lanes, &wire.message),
         None => false,
     }
-}
-
-/// Whether a message is on its way from one node to another.
-fn has_wire(lists: &[Queue], count: u8, from: u8, to: u8) -> bool
-    requires lists { AreQueues lists.now count }
-    requires from { from < count }
-    requires to { to < count }
-    ensures value { (result ≡ true) ↔ (wires_of lists.now count from to ≢ []) }
-{
-    match first_wire(lists, count, from, to) {
-        Some(_) => true,
-        None => false,
-    }
-}
-
-/// Whether a message is on its way to a node.
-pub(crate) fn has_mail(lists: &[Queue], count: u8, node: u8) -> bool
-    requires lists { AreQueues lists.now count }
-    requires node { node < count }
-    ensures value { result ≡ false
-        → (from : ℕ) → from < count → wires_of lists.now count from node ≡ [] }
-{
-    for from in 0..count {
-        if has_wire(lists, count, from, node) {
-            return true;
-        }
-    }
-    false
 }
 
 /// Whether the first message from one node to another, where one is on its way, takes something of

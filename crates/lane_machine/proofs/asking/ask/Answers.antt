@@ -14,8 +14,7 @@ pub returns-in-Some-clause-turn : goal.returns-in-Some-clause-turn
 returns-in-Some-clause-turn c n posts p again =
     let body = c.args.body.now in
     ap (λ o. ask (layout_of body) c.args.want.need o (asked_by (stood n body c.args.protocol.now c.args.places.now) posts p again))
-    (sym c.in-Some.ensures)
-    ∙ c.ask_block.ensures.turn n posts p again
+    (sym c.in-Some.ensures) ∙ c.ask_block.ensures.turn n posts p again
 
 pub returns-in-None-clause-begun : goal.returns-in-None-clause-begun
 returns-in-None-clause-begun c idle unmet =

@@ -32,13 +32,11 @@ returns-then-is_empty-clause-outcome c =
     let over = over_without w (core_of p) none c.promises.ensures.goes_on in
     subst (λ (v : LaneWork). IfOk c.outcome.result
     (λ (o : Outcome). IsLaneOutcomeByOrder v c.args.order (outcome_of o)))
-    l.invariant.work
-    (IfOk-weaker c.outcome.result
+    l.invariant.work (IfOk-weaker c.outcome.result
     (λ (o : Outcome). (run : List LaneEvent) → IsRunTo run p → IsLaneOutcomeOf w run (outcome_of o))
     (λ (o : Outcome). IsLaneOutcomeByOrder w c.args.order (outcome_of o))
     (λ o given. outcome_by_order c.args.order l._turn l.order p (outcome_of o) c.promises.ensures.some
-    l.invariant.leads none over given)
-    c.outcome.ensures.outcome)
+    l.invariant.leads none over given) c.outcome.ensures.outcome)
 
 pub returns-then-is_empty-clause-interleaves : goal.returns-then-is_empty-clause-interleaves
 returns-then-is_empty-clause-interleaves c = λ plan events runs run.

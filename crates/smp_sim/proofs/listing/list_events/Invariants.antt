@@ -18,8 +18,7 @@ invariant-loop-processor l = record {
 
 abbrev pub invariant-loop-node : goal.invariant-loop-node
 invariant-loop-node l = record {
-  listed : map event_of l.events.items
-      ≡ filter (is_allowed (work_of l.core) (core_of l.core))
+  listed : map event_of l.events.items ≡ filter (is_allowed (work_of l.core) (core_of l.core))
       (map (λ p. Exec p) (range_with_len 0 (processors (work_of l.core))))
       ++ filter (is_allowed (work_of l.core) (core_of l.core))
       (flat_map (takes_at l.core.layout.nodes) (range_with_len 0 l.node));

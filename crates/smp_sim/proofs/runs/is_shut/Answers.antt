@@ -3,8 +3,9 @@ use Rattle.std.proofs.Common.{ℕ, List, inl, inr}
 use Rattle.home_directory.specs.dsm_messages.declared.messages.Wire.{Wire}
 use Rattle.lane_model.specs.Nodes.{LaneNode, LaneWork}
 use Rattle.lane_law.specs.dsm_protocol.Queue.{wires_of}
-use Rattle.smp_sim.specs.CoreParts.{node_in}
-use Rattle.smp_sim.specs.CoreSteps.{HoldsBeside, IsShut, TakeAway}
+use Rattle.lane_machine.specs.SmpNodes.{node_in}
+use Rattle.lane_machine.specs.SmpNodes.{HoldsBeside}
+use Rattle.smp_sim.specs.CoreSteps.{IsShut, TakeAway}
 use Rattle.smp_sim.proofs.runs.is_shut.Goals as goal
 
 shut_by : (w : LaneWork) (x : LaneNode) (k : ℕ) (ws : List Wire) → HoldsBeside w x k → TakeAway ws

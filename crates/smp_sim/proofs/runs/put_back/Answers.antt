@@ -2,8 +2,8 @@
 use Rattle.std.proofs.Common.{◌<◌, ◌∙◌, None, get_or, inl, inr, length, length-set, set, subst, sym, arith}
 use Rattle.std.proofs.lemmas.List.{get_or-set_same, get_or-set_other}
 use Rattle.std.proofs.lemmas.Bool.Decides.{eqb_tells}
-use Rattle.smp_sim.specs.InUse.{IsSameNode}
-use Rattle.smp_sim.specs.declared.node.SmpNode.{SmpNode}
+use Rattle.lane_machine.specs.SmpNodesInUse.{IsSameNode}
+use Rattle.lane_machine.specs.declared.node.SmpNode.{SmpNode}
 use Rattle.smp_sim.proofs.TurnsInUse.{a_node, put_back_at}
 use Rattle.smp_sim.proofs.runs.put_back.Goals as goal
 

@@ -1,6 +1,7 @@
 use Rattle.std.proofs.Common.{◌≡◌, ℕ, ◌<◌, ◌≤◌, List, get_or, length, None}
-use Rattle.smp_sim.specs.declared.node.SmpNode.{SmpNode}
-use Rattle.smp_sim.specs.InUse.{HaveRests, IsSameNode}
+use Rattle.lane_machine.specs.declared.node.SmpNode.{SmpNode}
+use Rattle.lane_machine.specs.SmpNodesInUse.{IsSameNode}
+use Rattle.smp_sim.specs.InUse.{HaveRests}
 use Rattle.smp_sim.proofs.runs.put_back.Given as goal
 
 abbrev pub invariant-loop-node : goal.invariant-loop-node

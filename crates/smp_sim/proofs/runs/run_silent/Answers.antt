@@ -1,6 +1,7 @@
 -- Turn by turn the order picks an event, as long as it is a silent word.
 use Rattle.std.proofs.Common.{arith, refl}
-use Rattle.smp_sim.specs.CoreParts.{event_of, lane_work}
+use Rattle.lane_machine.specs.SmpNodes.{lane_work}
+use Rattle.smp_sim.specs.CoreParts.{event_of}
 use Rattle.smp_sim.proofs.TurnsInUse.{ended_leads, ended_listed, goes_on_way, may_there, may_turn_there, on_the_way_first, put_back_core, stopped, stopped_listed}
 use Rattle.smp_sim.proofs.runs.run_silent.Goals as goal
 

@@ -3,7 +3,7 @@ use Rattle.std.proofs.Common.{◌≡◌, ◌<◌, ℕ, [], None, inl, refl, subs
 use Rattle.std.specs.Prelude.{slice_index_or}
 use Rattle.lane_model.specs.Nodes.{LaneWork, lane_of, node_of}
 use Rattle.lane_law.specs.dsm_protocol.Queue.{wires_of}
-use Rattle.smp_sim.specs.CoreParts.{lane_work, node_in}
+use Rattle.lane_machine.specs.SmpNodes.{lane_work, node_in}
 use Rattle.smp_sim.specs.CoreSteps.{IsShut}
 use Rattle.smp_sim.proofs.CoreRuns.{lane_low}
 use Rattle.smp_sim.proofs.TurnsInUse.{is_none, long, may_none, may_turn, no_mail, rests_at, shut_rest, turned_not, turned_on, turned_shut}
@@ -106,8 +106,7 @@ returns c =
           let shut = subst (λ n. (j : ℕ) → j < n → IsShut v (node_in v i z) k (wires_of lists n j i))
           c.nodes-count.ensures.nodes (c.is_shut.ensures c.if-not-is_shut.false v is refl) in
           turned_shut w lists ys out r xs used rest core may x at none c.exec_silent.result
-          c.exec_silent.new.self (long w lists ys out r xs used rest core may c.told-used)
-          (record {
+          c.exec_silent.new.self (long w lists ys out r xs used rest core may c.told-used) (record {
             rest = c.exec_silent.new.self;
             rests = refl;
             node = e.is_node;
@@ -115,6 +114,5 @@ returns c =
             may = e.may;
             stamps = e.stamps;
             same = e.kept;
-          })
-          (shut_rest w lists ys out r xs used rest core may z c.index.ensures none shut);
+          }) (shut_rest w lists ys out r xs used rest core may z c.index.ensures none shut);
     }

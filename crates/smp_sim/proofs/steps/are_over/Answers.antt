@@ -3,7 +3,8 @@ use Rattle.std.proofs.Common.{◌≡◌, ◌<◌, true, false, ◌∙◌, refl, 
 use Rattle.std.proofs.lemmas.Bool.Decides.{eqb_tells}
 use Rattle.lane_model.specs.Nodes.{opening_node}
 use Rattle.lane_model.specs.Core.{is_over}
-use Rattle.smp_sim.specs.CoreParts.{core_with, lane_work, node_in}
+use Rattle.lane_machine.specs.SmpNodes.{lane_work, node_in}
+use Rattle.smp_sim.specs.CoreParts.{core_with}
 use Rattle.smp_sim.proofs.CoreSteps.{node_at, read_at}
 use Rattle.smp_sim.proofs.steps.are_over.Goals as goal
 

@@ -1,6 +1,7 @@
 use Rattle.std.proofs.Common.{◌≡◌, ℕ, ◌<◌, true}
 use Rattle.lane_model.specs.Core.{is_over}
-use Rattle.smp_sim.specs.CoreParts.{core_with, lane_work}
+use Rattle.lane_machine.specs.SmpNodes.{lane_work}
+use Rattle.smp_sim.specs.CoreParts.{core_with}
 use Rattle.smp_sim.proofs.steps.are_over.Given as goal
 
 abbrev pub invariant-loop-node : goal.invariant-loop-node

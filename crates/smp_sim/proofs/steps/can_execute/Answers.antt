@@ -3,7 +3,7 @@ use Rattle.std.proofs.Common.{◌<◌, ◌*◌, ◌∙◌, ap, sym, subst}
 use Rattle.lane_model.specs.node_model.Core.{may_execute}
 use Rattle.lane_model.specs.Nodes.{LaneNode, node_of, lane_of, opening_node}
 use Rattle.lane_model.specs.Core.{standing_of}
-use Rattle.smp_sim.specs.CoreParts.{lane_work, node_in}
+use Rattle.lane_machine.specs.SmpNodes.{lane_work, node_in}
 use Rattle.smp_sim.proofs.CoreRuns.{placed}
 use Rattle.smp_sim.proofs.CoreSteps.{node_at, read_at}
 use Rattle.smp_sim.proofs.steps.can_execute.Goals as goal

@@ -3,7 +3,8 @@ use Rattle.std.proofs.Common.{◌≡◌, ◌≢◌, ◌<◌, ◌∷◌, [], ◌�
 use Rattle.lane_law.specs.dsm_protocol.Queue.{wires_of}
 use Rattle.lane_model.specs.Nodes.{LaneNode, opening_node}
 use Rattle.lane_model.specs.Core.{may_take_first}
-use Rattle.smp_sim.specs.CoreParts.{core_with, lane_work, node_in}
+use Rattle.lane_machine.specs.SmpNodes.{lane_work, node_in}
+use Rattle.smp_sim.specs.CoreParts.{core_with}
 use Rattle.smp_sim.proofs.CoreSteps.{node_at, read_at}
 use Rattle.smp_sim.proofs.steps.can_take.Goals as goal
 

@@ -4,7 +4,7 @@ use Rattle.lane_law.specs.dsm_protocol.Queue.{AreQueues, IsSent}
 use Rattle.lane_model.specs.node_model.Core.{may_execute}
 use Rattle.lane_model.specs.Nodes.{LaneNode, node_of, lane_of, opening_node}
 use Rattle.lane_model.specs.Core.{LaneCore, standing_of}
-use Rattle.smp_sim.specs.CoreParts.{lane_work, node_in}
+use Rattle.lane_machine.specs.SmpNodes.{lane_work, node_in}
 use Rattle.smp_sim.proofs.CoreRuns.{lane_low, placed}
 use Rattle.smp_sim.proofs.CoreSteps.{can_execute_by, executed, node_at, read_at, stored_then}
 use Rattle.smp_sim.proofs.steps.execute.Goals as goal
@@ -23,8 +23,7 @@ exec-turn-requires-clause-may c =
     let is = node_at w ns i x are.each below at in
     let same = ap (λ (z : LaneCore). z.nodes i) (sym c.make_room.ensures.core)
     ∙ read_at (node_in w i) ns i x (opening_node w i) below at in
-    can_execute_by w i k x
-    (subst (λ z. k < z) (sym is.lanes.count) (lane_low w p c.requires.some))
+    can_execute_by w i k x (subst (λ z. k < z) (sym is.lanes.count) (lane_low w p c.requires.some))
     (subst (λ (z : LaneNode). may_execute (standing_of w z k) ≡ true) same c.requires.allowed.1)
 
 pub exec-turn-requires-clause-stamp : goal.exec-turn-requires-clause-stamp

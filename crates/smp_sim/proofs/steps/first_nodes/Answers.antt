@@ -1,6 +1,6 @@
 -- One node more.
 use Rattle.std.proofs.Common.{◌≤◌, ◌+◌, sym, subst}
-use Rattle.smp_sim.specs.CoreParts.{lane_work}
+use Rattle.lane_machine.specs.SmpNodes.{lane_work}
 use Rattle.smp_sim.specs.CoreSteps.{AreFirst}
 use Rattle.smp_sim.proofs.Firsts.{first_more}
 use Rattle.smp_sim.proofs.steps.first_nodes.Goals as goal

@@ -1,6 +1,6 @@
 use Rattle.std.proofs.Common.{◌≡◌, ◌≤◌, length}
 use Rattle.std.specs.Vec.{vec_capacity}
-use Rattle.smp_sim.specs.CoreParts.{lane_work}
+use Rattle.lane_machine.specs.SmpNodes.{lane_work}
 use Rattle.smp_sim.specs.CoreSteps.{AreFirst}
 use Rattle.smp_sim.proofs.steps.first_nodes.Given as goal
 

@@ -1,7 +1,7 @@
 -- A node with more room stands for the same.
 use Rattle.std.proofs.Common.{◌<◌, sym, subst}
 use Rattle.lane_law.specs.dsm_protocol.Queue.{AreQueues, SameWires}
-use Rattle.smp_sim.specs.CoreParts.{lane_work, node_in}
+use Rattle.lane_machine.specs.SmpNodes.{lane_work, node_in}
 use Rattle.smp_sim.proofs.CoreSteps.{core_same, node_at, set_same, stored_then}
 use Rattle.smp_sim.proofs.steps.make_room.Goals as goal
 

@@ -6,7 +6,7 @@ use Rattle.home_directory.specs.dsm_messages.declared.messages.Wire.{Wire}
 use Rattle.lane_law.specs.dsm_protocol.Queue.{AreQueues, HasRoom, IsSent, IsTaken, wires_of}
 use Rattle.lane_model.specs.Nodes.{LaneNode, opening_node}
 use Rattle.lane_model.specs.Core.{LaneCore}
-use Rattle.smp_sim.specs.CoreParts.{lane_work, node_in}
+use Rattle.lane_machine.specs.SmpNodes.{lane_work, node_in}
 use Rattle.smp_sim.proofs.CoreSteps.{node_at, read_at, stored_then, taken}
 use Rattle.smp_sim.proofs.steps.take.Goals as goal
 

@@ -27,5 +27,4 @@ returns-clause-ended c = λ yes l m f g s.
     → HasLane m g (with_lane x m g)) c.self.view_is
     (subst (λ (p : StoredShared). ArePutBack o p l f
     → ArePutBack c.exec_in_use.new.self c.exec_in_use.new.shared m g → (x : LaneNode) → HasLane l f x
-    → HasLane m g (with_lane x m g)) c.shared.view_is
-    (c.exec_in_use.ensures.ended yes l m f g)) s
+    → HasLane m g (with_lane x m g)) c.shared.view_is (c.exec_in_use.ensures.ended yes l m f g)) s

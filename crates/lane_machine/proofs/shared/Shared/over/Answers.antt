@@ -47,7 +47,6 @@ returns c = record {
       let many : c.nodes.result ≡ nodes = c.nodes.ensures.nodes ∙ ap (λ (s : Shape). s.nodes) c.self.invariant.layout in
       over_by (eqb (count_of (members f.state.byes) c.nodes.result) c.nodes.result) c.is_over.result
       (subst (λ s. (c.is_over.result ≡ true) ↔ (s ≡ standing.Over)) c.ended_standing.ensures
-      c.is_over.ensures)
-      ∙ (λ t. eqb (count_of (members f.state.byes) (many t)) (many t))
+      c.is_over.ensures) ∙ (λ t. eqb (count_of (members f.state.byes) (many t)) (many t))
       ∙ sym (over ∙ ap (λ t. t && eqb (count_of (members f.state.byes) nodes) nodes) all);
 }

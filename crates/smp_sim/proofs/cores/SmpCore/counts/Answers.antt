@@ -18,8 +18,7 @@ loop-node-preserved c =
           ∙ ap (λ z. z + 1) c.loop-node.invariant.len;
       room = subst (λ z. c.node_count-count.result ≤ z) (sym c.push_reserved.ensures.capacity)
           c.loop-node.invariant.room;
-      items = is
-          ∙ ap₂ (λ (xs : List NodeCounts) (x : NodeCounts). xs ++ x ∷ [])
+      items = is ∙ ap₂ (λ (xs : List NodeCounts) (x : NodeCounts). xs ++ x ∷ [])
           c.loop-node.invariant.items
           (c.counts.ensures.value (work_of p) k ∙ ap (λ (n : LaneNode). n.shared.counts) c.node.ensures.value)
           ∙ sym (map-range_with_len_more (λ i. (core.nodes i).shared.counts) 0 k k (omega arith));

@@ -3,7 +3,7 @@ use Rattle.std.proofs.Common.{◌≡◌, true, List, sym, subst}
 use Rattle.std.specs.Prelude.{◌↔◌}
 use Rattle.lane_model.specs.Core.{May}
 use Rattle.lane_law.specs.dsm_protocol.Queue.{Queue}
-use Rattle.smp_sim.specs.declared.node.SmpNode.{SmpNode}
+use Rattle.lane_machine.specs.declared.node.SmpNode.{SmpNode}
 use Rattle.smp_sim.specs.CoreParts.{AreStored, CoreParts, core_of, core_with, event_of, work_of}
 use Rattle.smp_sim.proofs.cores.SmpCore.enabled.Goals as goal
 

@@ -3,7 +3,8 @@ use Rattle.std.proofs.Common.{◌≡◌, ◌<◌, ◌≤◌, ◌++◌, true, fal
 use Rattle.lane_model.specs.node_model.Core.{may_execute}
 use Rattle.lane_model.specs.Nodes.{LaneNode, lane_of, node_of, opening_node}
 use Rattle.lane_model.specs.Core.{Exec, LaneEvent, May, event_step, standing_of}
-use Rattle.smp_sim.specs.CoreParts.{AreAlike, CoreParts, IsRunTo, core_of, node_in, work_of}
+use Rattle.lane_machine.specs.SmpNodes.{node_in}
+use Rattle.smp_sim.specs.CoreParts.{AreAlike, CoreParts, IsRunTo, core_of, work_of}
 use Rattle.smp_sim.specs.CoreSteps.{IsSilent}
 use Rattle.smp_sim.proofs.CoreRuns.{lane_low, placed}
 use Rattle.smp_sim.proofs.CoreSteps.{can_execute_by, node_at, read_at}

@@ -9,8 +9,8 @@ use Rattle.smp_sim.proofs.cores.SmpCore.has_mail.Goals as goal
 pub nonzero_div-node : goal.nonzero_div-node
 nonzero_div-node c = c.self.invariant.work.some
 
-pub has_mail-requires-clause-lists : goal.has_mail-requires-clause-lists
-has_mail-requires-clause-lists c =
+pub has_mail-requires-clause-queues : goal.has_mail-requires-clause-queues
+has_mail-requires-clause-queues c =
     subst (λ (qs : List Queue). AreQueues qs c.nodes-count.result) (sym c.deref.ensures.value)
     (subst (AreQueues c.self.inside.lists.items) (sym c.nodes-count.ensures.nodes) c.self.invariant.stored.queues)
 
@@ -46,7 +46,7 @@ returns c =
     let i = node_of (work_of p) c.args.processor in
     let given = subst (λ n. c.has_mail.result ≡ false
     → (j : ℕ) → j < n → wires_of c.deref.result.now n j i ≡ []) c.nodes-count.ensures.nodes
-    c.has_mail.ensures.value in
+    c.has_mail.ensures.value.0 in
     let stored = subst (λ (qs : List Queue). c.has_mail.result ≡ false
     → (j : ℕ) → j < p.layout.nodes → wires_of qs p.layout.nodes j i ≡ []) c.deref.ensures.value
     given in

@@ -1,7 +1,8 @@
 -- The node that was read is that of the core.
 use Rattle.std.proofs.Common.{◌≡◌, ◌<◌, sym, subst}
 use Rattle.lane_model.specs.Nodes.{opening_node}
-use Rattle.smp_sim.specs.CoreParts.{CoreParts, IsNode, core_of, node_in, work_of}
+use Rattle.lane_machine.specs.SmpNodes.{IsNode, node_in}
+use Rattle.smp_sim.specs.CoreParts.{CoreParts, core_of, work_of}
 use Rattle.smp_sim.proofs.CoreSteps.{node_at, read_at}
 use Rattle.smp_sim.proofs.cores.SmpCore.node.Goals as goal
 

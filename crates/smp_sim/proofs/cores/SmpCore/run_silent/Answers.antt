@@ -2,7 +2,8 @@
 use Rattle.std.proofs.Common.{◌≡◌, ap, map, sym, subst, ◌∙◌, List}
 use Rattle.std.specs.Prelude.{MatchOption}
 use Rattle.lane_law.specs.dsm_protocol.Queue.{Queue}
-use Rattle.smp_sim.specs.CoreParts.{CoreParts, IsCore, core_of, core_with, event_of, lane_work, parts_of, work_of}
+use Rattle.lane_machine.specs.SmpNodes.{lane_work}
+use Rattle.smp_sim.specs.CoreParts.{CoreParts, IsCore, core_of, core_with, event_of, parts_of, work_of}
 use Rattle.smp_sim.specs.ByOrder.{choices}
 use Rattle.smp_sim.specs.Turns.{LeadsOn, StopsAt}
 use Rattle.smp_sim.proofs.cores.SmpCore.run_silent.Goals as goal
