@@ -3,9 +3,9 @@ use Rattle.std.proofs.Common.{◌≡◌, ◌≢◌, ℕ, zero, suc, remove, ◌-
 use Rattle.std.proofs.lemmas.Bool.{cases_eq}
 use Rattle.std.specs.declared.collections.VecDeque.{VecDeque}
 use Rattle.dsm_messages.specs.declared.messages.Wire.{Wire}
-use Rattle.node_threads.specs.Works.{in_hand}
+use Rattle.node_threads.specs.Works.{undelivered_from}
 use Rattle.node_threads.specs.Rows.{wires_at}
-use Rattle.node_threads.specs.Crew.{RowsOf, HandsFit, list_of, hand_at}
+use Rattle.node_threads.specs.Crew.{RowsOf, UndeliveredFit, list_of, undelivered_at}
 use Rattle.node_threads.proofs.Entries.{wires_same, wires_other, wires_get}
 
 abbrev pub Deque : Type 0
@@ -32,7 +32,7 @@ rows_set n (r ∷ rs) (suc i) new ro len = (ro.0, rows_set n rs i new ro.1 len)
 
 module _ (rs : List Row) (i j k : ℕ) (row new : Row) (old deque : Deque) (w : Wire) (at : i ≡ j) (lt : i < length rs) (is_row : row ≡ get_or rs i row) (lk : k < length row.items)
     (is_old : old ≡ get_or row.items k old) (is_deque : deque.items ≡ w ∷ old.items) (is_new : new.items ≡ set row.items k deque) where
-  pub front_here : (a : ℕ) → list_of (set rs i new) a k ≡ in_hand a (Some (j, w)) ++ list_of rs a k
+  pub front_here : (a : ℕ) → list_of (set rs i new) a k ≡ undelivered_from a (Some (j, w)) ++ list_of rs a k
   front_here a = ⊎_elim
       (λ (e : j ≡ a).
       let here : i ≡ a = at ∙ e in
@@ -49,25 +49,25 @@ module _ (rs : List Row) (i j k : ℕ) (row new : Row) (old deque : Deque) (w : 
       (λ (e : i ≢ a). ap (λ l. wires_at Q l b) (wires_other Row Deque R rs i a new (λ q. e (sym q))))
       (cases_eq i a)
 
-pub hand_first : (n : ℕ) (hs : List (Option (ℕ × Wire))) (h : Option (ℕ × Wire)) (rest : List (Option (ℕ × Wire))) → 0 < length hs → h ≡ get_or hs 0 h → rest ≡ remove hs 0 → HandsFit n hs
-    → HandsFit n (h ∷ []) × HandsFit n rest × (h ≡ hand_at hs 0) × ((i : ℕ) → hand_at rest i ≡ hand_at hs (suc i)) × (suc (length rest) ≡ length hs)
-hand_first n [] h rest some is after fit = absurd (not-suc-le-zero some)
-hand_first n (None ∷ hs) h rest some is after fit = (subst (λ x. HandsFit n (x ∷ [])) (sym is) tt, subst (λ l. HandsFit n l) (sym after) fit, is, (λ i. ap (λ l. hand_at l i) after), ap (λ l. suc (length l)) after)
-hand_first n (Some p ∷ hs) h rest some is after fit = (subst (λ x. HandsFit n (x ∷ [])) (sym is) (fit.0, tt), subst (λ l. HandsFit n l) (sym after) fit.1, is, (λ i. ap (λ l. hand_at l i) after), ap (λ l. suc (length l)) after)
+pub undelivered_first : (n : ℕ) (hs : List (Option (ℕ × Wire))) (h : Option (ℕ × Wire)) (rest : List (Option (ℕ × Wire))) → 0 < length hs → h ≡ get_or hs 0 h → rest ≡ remove hs 0 → UndeliveredFit n hs
+    → UndeliveredFit n (h ∷ []) × UndeliveredFit n rest × (h ≡ undelivered_at hs 0) × ((i : ℕ) → undelivered_at rest i ≡ undelivered_at hs (suc i)) × (suc (length rest) ≡ length hs)
+undelivered_first n [] h rest some is after fit = absurd (not-suc-le-zero some)
+undelivered_first n (None ∷ hs) h rest some is after fit = (subst (λ x. UndeliveredFit n (x ∷ [])) (sym is) tt, subst (λ l. UndeliveredFit n l) (sym after) fit, is, (λ i. ap (λ l. undelivered_at l i) after), ap (λ l. suc (length l)) after)
+undelivered_first n (Some p ∷ hs) h rest some is after fit = (subst (λ x. UndeliveredFit n (x ∷ [])) (sym is) (fit.0, tt), subst (λ l. UndeliveredFit n l) (sym after) fit.1, is, (λ i. ap (λ l. undelivered_at l i) after), ap (λ l. suc (length l)) after)
 
--- one more list has its hand
-pub one_more : (hands : List (Option (ℕ × Wire))) (old now next : List Row) (k : ℕ) (h : Option (ℕ × Wire)) → h ≡ hand_at hands k
-    → ((a b : ℕ) → b < k → list_of now a b ≡ in_hand a (hand_at hands b) ++ list_of old a b) → ((a b : ℕ) → k ≤ b → list_of now a b ≡ list_of old a b)
-    → ((a : ℕ) → list_of next a k ≡ in_hand a h ++ list_of now a k) → ((a b : ℕ) → b ≢ k → list_of next a b ≡ list_of now a b)
-    → ((a b : ℕ) → b < k + 1 → list_of next a b ≡ in_hand a (hand_at hands b) ++ list_of old a b) × ((a b : ℕ) → k + 1 ≤ b → list_of next a b ≡ list_of old a b)
-one_more hands old now next k h is done left here other = (
+-- one more list has its undelivered wire
+pub one_more : (undelivered : List (Option (ℕ × Wire))) (old now next : List Row) (k : ℕ) (h : Option (ℕ × Wire)) → h ≡ undelivered_at undelivered k
+    → ((a b : ℕ) → b < k → list_of now a b ≡ undelivered_from a (undelivered_at undelivered b) ++ list_of old a b) → ((a b : ℕ) → k ≤ b → list_of now a b ≡ list_of old a b)
+    → ((a : ℕ) → list_of next a k ≡ undelivered_from a h ++ list_of now a k) → ((a b : ℕ) → b ≢ k → list_of next a b ≡ list_of now a b)
+    → ((a b : ℕ) → b < k + 1 → list_of next a b ≡ undelivered_from a (undelivered_at undelivered b) ++ list_of old a b) × ((a b : ℕ) → k + 1 ≤ b → list_of next a b ≡ list_of old a b)
+one_more undelivered old now next k h is done left here other = (
   (λ a b lt. ⊎_elim
-      (λ (e : b ≡ k). subst (λ c. list_of next a c ≡ in_hand a (hand_at hands c) ++ list_of old a c) (sym e)
-      (here a ∙ ap₂ (λ x y. in_hand a x ++ y) is (left a k (omega arith))))
+      (λ (e : b ≡ k). subst (λ c. list_of next a c ≡ undelivered_from a (undelivered_at undelivered c) ++ list_of old a c) (sym e)
+      (here a ∙ ap₂ (λ x y. undelivered_from a x ++ y) is (left a k (omega arith))))
       (λ (e : b ≢ k). other a b e ∙ done a b (omega arith)) (cases_eq b k)),
   λ a b le. let ne : b ≢ k = omega arith in other a b ne ∙ left a b (omega arith),
 )
 
-pub no_hands : (hands rest : List (Option (ℕ × Wire))) (k : ℕ) → length rest ≡ 0 → ((i : ℕ) → hand_at rest i ≡ hand_at hands (k + i)) → (b : ℕ) → k ≤ b → hand_at hands b ≡ None
-no_hands hands [] k none same b le = let i = b - k in let e : k + i ≡ b = omega arith in ap (λ c. hand_at hands c) (sym e) ∙ sym (same i)
-no_hands hands (r ∷ rest) k none same b le = absurd (omega arith)
+pub none_undelivered : (undelivered rest : List (Option (ℕ × Wire))) (k : ℕ) → length rest ≡ 0 → ((i : ℕ) → undelivered_at rest i ≡ undelivered_at undelivered (k + i)) → (b : ℕ) → k ≤ b → undelivered_at undelivered b ≡ None
+none_undelivered undelivered [] k none same b le = let i = b - k in let e : k + i ≡ b = omega arith in ap (λ c. undelivered_at undelivered c) (sym e) ∙ sym (same i)
+none_undelivered undelivered (r ∷ rest) k none same b le = absurd (omega arith)

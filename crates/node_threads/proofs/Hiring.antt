@@ -16,9 +16,9 @@ moved W X f ws w [] rest all some is left done = absurd (lt_irrefl _ some)
 moved W X f ws w (x ∷ xs) rest all some is left done = snoc_then W X f ws w rest
     ∙ ap₂ (λ a b. map f ws ++ (a ∷ b)) is left ∙ done
 
--- one more without a wire in hand
+-- one more without an undelivered wire
 pub idle_snoc : (ws : List Worker) (w : Worker)
-    → ((vs : List Worker) → AllIdle vs → AllIdle (ws ++ vs)) → w.hand ≡ None
+    → ((vs : List Worker) → AllIdle vs → AllIdle (ws ++ vs)) → w.undelivered ≡ None
     → (vs : List Worker) → AllIdle vs → AllIdle ((ws ++ w ∷ []) ++ vs)
 idle_snoc ws w keep none vs h = subst AllIdle (sym (append_assoc ws (w ∷ []) vs))
     (keep (w ∷ vs) (none, h))

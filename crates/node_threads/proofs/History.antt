@@ -44,14 +44,6 @@ poll_may : (polls : Bool) → may_execute (cond polls standing.AtPoll standing.R
 poll_may true = refl
 poll_may false = refl
 
--- a node that may execute a word has a phase of execution
-pub can_by : (work : Work) (n : Node) (p : Phase) → may_execute (standing_in work n p) ≡ true
-    → can_execute p ≡ true
-can_by work n Running may = refl
-can_by work n Resumed may = refl
-can_by work n (Waiting resume) may = may
-can_by work n (Ended end) may = sym (end_cannot (has_all_byes work n)) ∙ may
-
 -- a node with a phase of execution may execute a word
 pub may_by : (work : Work) (n : Node) (p : Phase) → can_execute p ≡ true
     → may_execute (standing_in work n p) ≡ true

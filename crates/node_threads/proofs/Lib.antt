@@ -6,7 +6,7 @@ pub mod Gathering
 pub mod Hiring
 pub mod MeshRows
 pub mod Parting
-pub mod Posts
+pub mod Outboxes
 pub mod Races
 pub mod Squares
 pub mod Working

@@ -35,8 +35,7 @@ flat_at n (r ∷ rs) ro zero k lt in_row =
 flat_at n (r ∷ rs) ro (suc j) k lt in_row =
     let len : length (map Q r.items) ≡ n = length-map r.items Q ∙ ro.0 in
     let e : suc j * n + k ≡ n + (j * n + k) = omega arith in
-    ap (λ i. get_or (map Q r.items ++ flat rs) i [])
-    (e ∙ ap (λ m. m + (j * n + k)) (sym len))
+    ap (λ i. get_or (map Q r.items ++ flat rs) i []) (e ∙ ap (λ m. m + (j * n + k)) (sym len))
     ∙ get_or-append-add (map Q r.items) (flat rs) (j * n + k) []
     ∙ flat_at n rs ro.1 j k (le_of_suc-le-suc lt) in_row
 
@@ -49,8 +48,7 @@ list_at n qs rows len many ro is j k bj bk =
     let W : Queue → List Wire = λ q. q.wires in
     let below : j * n + k < length qs =
     subst (λ i. j * n + k < i) (sym len) (place_below n j k bj bk) in
-    list_in qs n j k bj bk
-    ∙ sym (get_or-map W qs (j * n + k) no_queue [] below)
+    list_in qs n j k bj bk ∙ sym (get_or-map W qs (j * n + k) no_queue [] below)
     ∙ ap (λ l. get_or l (j * n + k) []) (sym is)
     ∙ flat_at n rows ro j k (subst (λ i. j < i) (sym many) bj) bk
 
@@ -100,8 +98,7 @@ have_done work olds news qs rs old new e lq lr many ro is_old is_new h =
           let now : wires_of rs work.layout.nodes j k ≡ list_of new j k =
           ap (λ i. wires_of rs i j k) e
           ∙ list_at n rs new lr h.rows h.square (sym is_new) j k cj ck in
-          ap (λ l. taken_from j (h.history k) ++ l) now
-          ∙ h.lists j k (opening_node work j) cj ck
+          ap (λ l. taken_from j (h.history k) ++ l) now ∙ h.lists j k (opening_node work j) cj ck
           ∙ ap (λ l. l ++ sent_to work k (node_or olds j (opening_node work j)) (h.history j))
           (sym was);
     }

@@ -10,10 +10,10 @@ use Rattle.node_threads.specs.Rows.{wires_at}
 use Rattle.node_threads.specs.Works.{Works}
 use Rattle.node_threads.specs.declared.worker.Worker.{Worker}
 
--- none has a wire in hand
+-- none has an undelivered wire
 abbrev pub AllIdle : List Worker → Type 0
 AllIdle [] = Unit {0}
-AllIdle (w ∷ ws) = (w.hand ≡ None) × AllIdle ws
+AllIdle (w ∷ ws) = (w.undelivered ≡ None) × AllIdle ws
 
 -- what each worker did
 abbrev pub AllWork : List Worker → List Worker → Type 0
@@ -21,11 +21,11 @@ AllWork [] [] = Unit {0}
 AllWork (old ∷ olds) (new ∷ news) = Works old new × AllWork olds news
 AllWork olds news = ⊥
 
--- what is in the hand of worker i
-abbrev pub hand_at : List (Option (ℕ × Wire)) → (i : ℕ) → Option (ℕ × Wire)
-hand_at [] i = None
-hand_at (h ∷ hs) zero = h
-hand_at (h ∷ hs) (suc i) = hand_at hs i
+-- the undelivered wire of worker i
+abbrev pub undelivered_at : List (Option (ℕ × Wire)) → (i : ℕ) → Option (ℕ × Wire)
+undelivered_at [] i = None
+undelivered_at (h ∷ hs) zero = h
+undelivered_at (h ∷ hs) (suc i) = undelivered_at hs i
 
 -- the list from node j to node k
 abbrev pub list_of : List (Vec (VecDeque Wire Global) Global) → (j k : ℕ) → List Wire
@@ -47,8 +47,8 @@ abbrev pub AreNodesOf : Work → List NodeState → Type 0
 AreNodesOf work [] = Unit {0}
 AreNodesOf work (f ∷ fs) = (work_of f ≡ work) × AreNodesOf work fs
 
--- what is in a hand is from one of n nodes
-abbrev pub HandsFit : (n : ℕ) → List (Option (ℕ × Wire)) → Type 0
-HandsFit n [] = Unit {0}
-HandsFit n (None ∷ hs) = HandsFit n hs
-HandsFit n (Some p ∷ hs) = (p.0 < n) × HandsFit n hs
+-- each undelivered wire is from one of n nodes
+abbrev pub UndeliveredFit : (n : ℕ) → List (Option (ℕ × Wire)) → Type 0
+UndeliveredFit n [] = Unit {0}
+UndeliveredFit n (None ∷ hs) = UndeliveredFit n hs
+UndeliveredFit n (Some p ∷ hs) = (p.0 < n) × UndeliveredFit n hs

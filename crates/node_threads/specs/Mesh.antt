@@ -30,15 +30,15 @@ first (e ∷ es) = e.wires
 
 -- For each receiver: what was sent and waits is what was taken and then what is left. The first
 -- taking end of each row is used up.
-abbrev pub GathersRow : (sends : List End) → (outs : List (List Wire)) → (takes : List (List End))
-    → (lists : List (List Wire)) → (rest : List (List End)) → Type 0
+abbrev pub GathersRow : (sends : List End) → (outboxes : List (List Wire))
+    → (takes : List (List End)) → (lists : List (List Wire)) → (rest : List (List End)) → Type 0
 GathersRow [] [] [] [] [] = Unit {0}
 GathersRow (e ∷ es) (o ∷ os) (t ∷ ts) (l ∷ ls) (u ∷ us) =
     (e.wires ++ o ≡ first t ++ l) × (u ≡ tail t) × GathersRow es os ts ls us
 GathersRow es os ts ls us = ⊥
 
 -- the same for each sender in turn
-abbrev pub Gathers : (sends : List (List End)) → (outs : List (List (List Wire)))
+abbrev pub Gathers : (sends : List (List End)) → (outboxes : List (List (List Wire)))
     → (takes : List (List End)) → (lists : List (List (List Wire))) → Type 0
 Gathers [] [] ts [] = Unit {0}
 Gathers (s ∷ ss) (o ∷ os) ts (l ∷ ls) =

@@ -20,32 +20,32 @@ pub struct WorkerParts<'a> {
     /// The taking ends of each.
     pub takes: Vec<Vec<TakeEnd>>,
     /// The outboxes of each.
-    pub outs: Vec<Vec<VecDeque<Wire>>>,
-    /// The wire in hand of each.
-    pub hands: Vec<Option<(u8, Wire)>>,
+    pub outboxes: Vec<Vec<VecDeque<Wire>>>,
+    /// The undelivered wire of each.
+    pub undelivered: Vec<Option<(u8, Wire)>>,
 }
 
-/// A worker for each node, with nothing in hand.
+/// A worker for each node, with no undelivered wire.
 pub fn make_workers<'a>(
     alloc: Global,
     nodes: Vec<Node<'a>>,
     sends: Vec<Vec<SendEnd>>,
     takes: Vec<Vec<TakeEnd>>,
-    outs: Vec<Vec<VecDeque<Wire>>>,
+    outboxes: Vec<Vec<VecDeque<Wire>>>,
 ) -> Result<Vec<Worker<'a>>, AllocError>
     requires sends { length sends.items ≡ length nodes.items }
     requires takes { length takes.items ≡ length nodes.items }
-    requires outs { length outs.items ≡ length nodes.items }
+    requires outboxes { length outboxes.items ≡ length nodes.items }
     ensures nodes { IfOk result (λ r. map (λ w. w.node) r.items ≡ nodes.entry.items) }
     ensures sends { IfOk result (λ r. map (λ w. w.sends) r.items ≡ sends.items) }
     ensures takes { IfOk result (λ r. map (λ w. w.takes) r.items ≡ takes.items) }
-    ensures outs { IfOk result (λ r. map (λ w. w.outs) r.items ≡ outs.items) }
+    ensures outboxes { IfOk result (λ r. map (λ w. w.outboxes) r.items ≡ outboxes.items) }
     ensures idle { IfOk result (λ r. AllIdle r.items) }
 {
     let mut nodes = nodes;
     let mut sends = sends;
     let mut takes = takes;
-    let mut outs = outs;
+    let mut outboxes = outboxes;
     let mut workers = Vec::new(alloc);
     let mut number: u8 = 0;
     'nodes: while !nodes.is_empty() {
@@ -55,9 +55,9 @@ pub fn make_workers<'a>(
             events: 0,
             sends: sends.remove(0),
             takes: takes.remove(0),
-            outs: outs.remove(0),
-            hand: None,
-            posts: Sends::new(),
+            outboxes: outboxes.remove(0),
+            undelivered: None,
+            outgoing: Sends::new(),
         })?;
         number = number.wrapping_add(1);
     }
@@ -88,28 +88,30 @@ pub fn take_workers_apart<'a>(
     ensures nodes { IfOk result (λ g. g.nodes.items ≡ map (λ w. w.node) workers.entry.items) }
     ensures sends { IfOk result (λ g. g.sends.items ≡ map (λ w. w.sends) workers.entry.items) }
     ensures takes { IfOk result (λ g. g.takes.items ≡ map (λ w. w.takes) workers.entry.items) }
-    ensures outs { IfOk result (λ g. g.outs.items ≡ map (λ w. w.outs) workers.entry.items) }
-    ensures hands { IfOk result (λ g. g.hands.items ≡ map (λ w. w.hand) workers.entry.items) }
+    ensures outboxes { IfOk result (λ g.
+        g.outboxes.items ≡ map (λ w. w.outboxes) workers.entry.items) }
+    ensures undelivered { IfOk result (λ g.
+        g.undelivered.items ≡ map (λ w. w.undelivered) workers.entry.items) }
 {
     let mut workers = workers;
     let mut nodes = Vec::new(alloc);
     let mut sends = Vec::new(alloc);
     let mut takes = Vec::new(alloc);
-    let mut outs = Vec::new(alloc);
-    let mut hands = Vec::new(alloc);
+    let mut outboxes = Vec::new(alloc);
+    let mut undelivered = Vec::new(alloc);
     'workers: while !workers.is_empty() {
         let worker = workers.remove(0);
         nodes.push(worker.node)?;
         sends.push(worker.sends)?;
         takes.push(worker.takes)?;
-        outs.push(worker.outs)?;
-        hands.push(worker.hand)?;
+        outboxes.push(worker.outboxes)?;
+        undelivered.push(worker.undelivered)?;
     }
     Ok(WorkerParts {
         nodes,
         sends,
         takes,
-        outs,
-        hands,
+        outboxes,
+        undelivered,
     })
 }

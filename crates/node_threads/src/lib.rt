@@ -4,12 +4,12 @@
 mod crew;
 mod gate;
 mod gather;
-mod hands;
 mod mesh;
 mod pace;
 mod racing;
 mod rows;
 mod signals;
+mod undelivered;
 mod worker;
 
 pub use gate::{Gate, OpenGate};

@@ -12,10 +12,10 @@ ghost use Rattle.node_threads.specs.Races.{HaveRaced, HaveGoneApart};
 use crate::crew::{WorkerParts, all_back, make_workers, take_workers_apart};
 use crate::gate::Gate;
 use crate::gather::gather;
-use crate::hands::put_hands;
 use crate::mesh::mesh;
 use crate::rows::{lists, rows};
 use crate::signals::Signals;
+use crate::undelivered::put_all_undelivered;
 use crate::worker::Worker;
 use dsm_core::node_machine::Node;
 use dsm_core::run_order::stamp_law;
@@ -46,7 +46,7 @@ pub fn race<'a, R: Threads + Wait + Sync, G: Gate + Sync>(
     race_with(rt, alloc, core, CAPACITY, gate)
 }
 
-/// Runs each node of a core in a thread of its own, over links that have room for so many wires,
+/// Runs each node of a core in a thread of its own, over links that have room for `capacity` wires,
 /// and then finishes what they left. A node that is alone needs neither a thread nor a link.
 pub fn race_with<'a, R: Threads + Wait + Sync, G: Gate + Sync>(
     rt: &R,
@@ -163,11 +163,11 @@ fn race_nodes<'a, R: Threads + Wait + Sync, G: Gate + Sync>(
         nodes,
         sends,
         takes,
-        outs,
-        hands,
+        outboxes,
+        undelivered,
     } = take_workers_apart(alloc, workers)?;
-    let lists = gather(rt, alloc, sends, outs, takes)?;
-    let lists = put_hands(lists, hands)?;
+    let lists = gather(rt, alloc, sends, outboxes, takes)?;
+    let lists = put_all_undelivered(lists, undelivered)?;
     Ok((nodes, lists))
 }
 

@@ -8,7 +8,7 @@ use dsm_protocol::Queue;
 use std::alloc::{AllocError, Global};
 use std::collections::VecDeque;
 
-/// Takes the first lists, so many, as a row.
+/// Takes the first lists as a row.
 fn take_row(
     alloc: Global,
     lists: &mut Vec<Queue>,

@@ -53,8 +53,8 @@ pub struct Signals {
 }
 
 impl Signals {
-    /// The signals of so many nodes, none of which was rung. No node has begun to work: where a
-    /// thread can't be started, a node begins when the one before it gives up.
+    /// The signals of `nodes` nodes; none was rung. No node has begun to work: where a thread can't
+    /// be started, a node begins when the one before it gives up.
     pub fn new(alloc: Global, nodes: usize) -> Result<Signals, AllocError> {
         let mut signals = Vec::new(alloc);
         for _ in 0..nodes {

@@ -9,21 +9,22 @@ ghost use Rattle.dsm_core.specs.node_machine.NodeState.{node_of};
 ghost use Rattle.node_threads.specs.Works.{Works, HasRows, standing, waiting};
 
 use crate::gate::Gate;
-use crate::pace::Pace;
+use crate::pace::{Burst, Pace, State};
 use crate::signals::Signals;
 use dsm_core::node_machine::{Node, Standing};
 use dsm_messages::{Sends, Wire};
 use fifo_link::{Full, SendEnd, TakeEnd};
+use message_queues::send_all;
 use run_limits::STAMPS;
 use std::alloc::AllocError;
 use std::collections::VecDeque;
 use std::sync::Wait;
 
-/// How many words a walk has at most.
-const WORDS: u32 = 1000;
+/// How many single steps are made at most on the way to a poll.
+const STEPS: u32 = 1000;
 
-/// How many words a loop that changes nothing has at most, where it is seen.
-const CIRCLE: u32 = 128;
+/// How many words a spin loop has at most, where it is detected.
+const SPIN_LOOP: u32 = 128;
 
 /// A node that makes its events by itself, with links to and from all nodes.
 #[derive(Drop)]
@@ -38,12 +39,12 @@ pub struct Worker<'a> {
     pub sends: Vec<SendEnd>,
     /// The taking end of the link from each node.
     pub takes: Vec<TakeEnd>,
-    /// What waits for room on the link to each node.
-    pub outs: Vec<VecDeque<Wire>>,
+    /// The outbox for each node: what waits for room on the link there.
+    pub outboxes: Vec<VecDeque<Wire>>,
     /// A wire that came from a link and wasn't taken, and its sender.
-    pub hand: Option<(u8, Wire)>,
-    /// Where an event leaves what it sends, until that is put behind what waits.
-    pub posts: Sends,
+    pub undelivered: Option<(u8, Wire)>,
+    /// Where an event leaves what it sends, until that stands in the outboxes.
+    pub outgoing: Sends,
 }
 
 /// Moves wires from an outbox to its link while there is room. Says whether any was moved.
@@ -67,27 +68,23 @@ fn flush<R: Wait>(rt: &R, end: &mut SendEnd, out: &mut VecDeque<Wire>) -> Result
     Ok(moved)
 }
 
-/// Puts what an event sends behind what waits.
-fn post(outs: &mut Vec<VecDeque<Wire>>, stamp: u64, sends: &mut Sends) -> Result<(), AllocError>
-    ensures wires { OnOk result ((k : ℕ) → k < length outs.old.items
-        → waiting outs.new.items k
-        ≡ waiting outs.old.items k ++ wires_to stamp k sends.old.items) }
-    ensures len { length outs.new.items ≡ length outs.old.items }
+/// Puts what an event sends into the outboxes.
+fn queue_sends(
+    outboxes: &mut Vec<VecDeque<Wire>>,
+    stamp: u64,
+    sends: &mut Sends,
+) -> Result<(), AllocError>
+    ensures wires { OnOk result ((k : ℕ) → k < length outboxes.old.items
+        → waiting outboxes.new.items k
+        ≡ waiting outboxes.old.items k ++ wires_to stamp k sends.old.items) }
+    ensures len { length outboxes.new.items ≡ length outboxes.old.items }
 {
-    while !sends.is_empty() {
-        let post = sends.remove(0);
-        let to = usize::from(post.to);
-        if to < outs.len() {
-            outs[to].push_back(Wire {
-                stamp,
-                message: post.message,
-            })?;
-        }
-    }
+    let nodes = outboxes.len();
+    send_all(outboxes, 0, nodes, stamp, sends)?;
     Ok(())
 }
 
-/// Goes through the gate before an event, of which there have been so many.
+/// Goes through the gate before an event, after `events` events.
 fn pass_gate<G: Gate>(gate: &G, number: u8, events: &mut u64) {
     gate.turn(number, *events);
     *events = events.wrapping_add(1);
@@ -112,7 +109,7 @@ impl<'a> Worker<'a> {
         signals: &Signals,
     ) -> Result<Worker<'a>, AllocError>
         requires rows { HasRows self }
-        requires hand { self.hand ≡ None }
+        requires undelivered { self.undelivered ≡ None }
         ensures works { IfOk result (λ w. Works self.entry w) }
     {
         let mut worker = self;
@@ -131,21 +128,18 @@ impl<'a> Worker<'a> {
     /// Whether there is nothing more to do: a stamp is out of range, or the node is over and
     /// nothing waits for room.
     fn is_done(&self) -> bool
-        ensures hand { result ≡ false → self.now.hand ≡ None }
+        ensures undelivered { result ≡ false → self.now.undelivered ≡ None }
         ensures stamp { result ≡ false → (node_of self.now.node).stamp < 2 ^ 56 }
     {
-        if self.hand.is_some() || self.node.stamp() >= STAMPS {
+        if self.undelivered.is_some() || self.node.stamp() >= STAMPS {
             return true;
         }
-        match self.node.standing() {
-            Standing::Over => !self.has_posts(),
-            _ => false,
-        }
+        self.node.standing().is_over() && !self.has_outgoing()
     }
 
-    /// Whether something waits for room.
-    fn has_posts(&self) -> bool {
-        !self.outs.iter().all(|out| out.is_empty())
+    /// Whether an outbox holds something.
+    fn has_outgoing(&self) -> bool {
+        !self.outboxes.iter().all(|out| out.is_empty())
     }
 
     /// Moves what waits to the links that have room, and then does what the node may. Says whether
@@ -158,7 +152,7 @@ impl<'a> Worker<'a> {
         pace: &mut Pace,
     ) -> Result<bool, AllocError>
         requires rows { HasRows self.old }
-        requires hand { self.old.hand ≡ None }
+        requires undelivered { self.old.undelivered ≡ None }
         requires stamp { (node_of self.old.node).stamp < 2 ^ 56 }
         ensures works { OnOk result (Works self.old self.new) }
     {
@@ -176,7 +170,7 @@ impl<'a> Worker<'a> {
         pace: &mut Pace,
     ) -> Result<bool, AllocError>
         requires rows { HasRows self.old }
-        requires hand { self.old.hand ≡ None }
+        requires undelivered { self.old.undelivered ≡ None }
         requires stamp { (node_of self.old.node).stamp < 2 ^ 56 }
         ensures works { OnOk result (Works self.old self.new) }
     {
@@ -197,22 +191,22 @@ impl<'a> Worker<'a> {
         pace: &mut Pace,
     ) -> Result<bool, AllocError>
         requires rows { HasRows self.old }
-        requires hand { self.old.hand ≡ None }
-        ensures hand { self.new.hand ≡ None }
+        requires undelivered { self.old.undelivered ≡ None }
+        ensures undelivered { self.new.undelivered ≡ None }
         ensures node { self.new.node ≡ self.old.node }
         ensures works { OnOk result (Works self.old self.new) }
     {
-        if !pace.posted {
+        if !pace.outgoing {
             return Ok(false);
         }
         let mut moved = false;
         for k in 0..self.sends.len() {
-            if flush(rt, &mut self.sends[k], &mut self.outs[k])? {
+            if flush(rt, &mut self.sends[k], &mut self.outboxes[k])? {
                 moved = true;
                 tell(gate, signals, k);
             }
         }
-        pace.posted = self.has_posts();
+        pace.outgoing = self.has_outgoing();
         Ok(moved)
     }
 
@@ -224,7 +218,7 @@ impl<'a> Worker<'a> {
         pace: &mut Pace,
     ) -> Result<bool, AllocError>
         requires rows { HasRows self.old }
-        requires hand { self.old.hand ≡ None }
+        requires undelivered { self.old.undelivered ≡ None }
         requires stamp { (node_of self.old.node).stamp < 2 ^ 56 }
         requires at { standing self.old.node ≡ AtPoll }
         ensures works { OnOk result (Works self.old self.new) }
@@ -235,62 +229,75 @@ impl<'a> Worker<'a> {
         self.run(gate, pace)
     }
 
-    /// Executes words: where a message is there, up to the next poll. A node that only comes round
-    /// executes none until a message is there. Says whether there was anything to do.
+    /// Executes words: where a message is there, up to the next poll. A node that spins executes
+    /// none until a message is there. Says whether there was anything to do.
     fn run<G: Gate>(&mut self, gate: &G, pace: &mut Pace) -> Result<bool, AllocError>
         requires rows { HasRows self.old }
-        requires hand { self.old.hand ≡ None }
+        requires undelivered { self.old.undelivered ≡ None }
         requires stamp { (node_of self.old.node).stamp < 2 ^ 56 }
         requires may { may_execute (standing self.old.node) ≡ true }
         ensures works { OnOk result (Works self.old self.new) }
     {
-        if pace.still {
-            return Ok(false);
+        match pace.state {
+            State::Idle => self.run_on(gate, pace),
+            State::Spinning => Ok(false),
+            State::HasMail => {
+                self.step_to_poll(gate, pace)?;
+                Ok(true)
+            }
         }
-        if pace.mail {
-            self.walk(gate, pace)?;
-            return Ok(true);
-        }
-        if pace.may_come_round() {
-            let round = self.circle(gate, pace)?;
-            pace.came_round(round);
-            return Ok(!round);
+    }
+
+    /// Executes words where no message is there, or finds out that its node spins. Says whether
+    /// there was anything to do.
+    fn run_on<G: Gate>(&mut self, gate: &G, pace: &mut Pace) -> Result<bool, AllocError>
+        requires rows { HasRows self.old }
+        requires undelivered { self.old.undelivered ≡ None }
+        requires stamp { (node_of self.old.node).stamp < 2 ^ 56 }
+        requires may { may_execute (standing self.old.node) ≡ true }
+        ensures works { OnOk result (Works self.old self.new) }
+    {
+        if pace.may_spin() {
+            let spins = self.detect_spin_loop(gate, pace)?;
+            pace.looked_for_spin_loop(spins);
+            return Ok(!spins);
         }
         if gate.is_open() {
-            self.stretch(pace)?;
+            self.run_burst(pace)?;
         } else {
-            self.walk(gate, pace)?;
-            pace.walked();
+            self.step_to_poll(gate, pace)?;
+            pace.stepped();
         }
         Ok(true)
     }
 
-    /// Executes a stretch of words, through polls, without a call of the gate.
-    fn stretch(&mut self, pace: &mut Pace) -> Result<(), AllocError>
+    /// Executes a burst of words, through polls, without a call of the gate.
+    fn run_burst(&mut self, pace: &mut Pace) -> Result<(), AllocError>
         requires rows { HasRows self.old }
-        requires hand { self.old.hand ≡ None }
+        requires undelivered { self.old.undelivered ≡ None }
         requires stamp { (node_of self.old.node).stamp < 2 ^ 56 }
         requires may { may_execute (standing self.old.node) ≡ true }
         ensures works { OnOk result (Works self.old self.new) }
     {
-        let most = pace.words;
+        let most = pace.burst_words();
         let words = self.node.run_silent(most);
-        pace.stretched(words);
         if words < most {
+            pace.ran(Burst::Stopped(words));
             return self.exec(pace);
         }
+        pace.ran(Burst::Whole);
         Ok(())
     }
 
     /// Executes words one by one, up to the next poll.
-    fn walk<G: Gate>(&mut self, gate: &G, pace: &mut Pace) -> Result<(), AllocError>
+    fn step_to_poll<G: Gate>(&mut self, gate: &G, pace: &mut Pace) -> Result<(), AllocError>
         requires rows { HasRows self.old }
-        requires hand { self.old.hand ≡ None }
+        requires undelivered { self.old.undelivered ≡ None }
         requires stamp { (node_of self.old.node).stamp < 2 ^ 56 }
         requires may { may_execute (standing self.old.node) ≡ true }
         ensures works { OnOk result (Works self.old self.new) }
     {
-        for _ in 0..WORDS {
+        for _ in 0..STEPS {
             self.word(gate, pace)?;
             if !self.may_go_on() || self.is_at_poll() {
                 return Ok(());
@@ -300,17 +307,17 @@ impl<'a> Worker<'a> {
     }
 
     /// Executes words one by one, until the node is where it was with nothing changed between, or
-    /// until that can't be. Says whether it came round: then it would do so again and again, unless
-    /// it took a message.
-    fn circle<G: Gate>(&mut self, gate: &G, pace: &mut Pace) -> Result<bool, AllocError>
+    /// until that can't be. Says whether it spins: then it would do so again and again, unless it
+    /// took a message.
+    fn detect_spin_loop<G: Gate>(&mut self, gate: &G, pace: &mut Pace) -> Result<bool, AllocError>
         requires rows { HasRows self.old }
-        requires hand { self.old.hand ≡ None }
+        requires undelivered { self.old.undelivered ≡ None }
         requires stamp { (node_of self.old.node).stamp < 2 ^ 56 }
         requires may { may_execute (standing self.old.node) ≡ true }
         ensures works { OnOk result (Works self.old self.new) }
     {
         let mark = self.node.snapshot();
-        for _ in 0..CIRCLE {
+        for _ in 0..SPIN_LOOP {
             if self.node.stirs() {
                 return Ok(false);
             }
@@ -333,28 +340,21 @@ impl<'a> Worker<'a> {
         if self.node.stamp() >= STAMPS {
             return false;
         }
-        match self.node.standing() {
-            Standing::Running => true,
-            Standing::AtPoll => true,
-            _ => false,
-        }
+        self.node.standing().may_execute()
     }
 
     /// Whether the node is at a poll.
     fn is_at_poll(&self) -> bool {
-        match self.node.standing() {
-            Standing::AtPoll => true,
-            _ => false,
-        }
+        matches!(self.node.standing(), Standing::AtPoll)
     }
 
     /// Passes the gate, and executes a word.
     fn word<G: Gate>(&mut self, gate: &G, pace: &mut Pace) -> Result<(), AllocError>
         requires rows { HasRows self.old }
-        requires hand { self.old.hand ≡ None }
+        requires undelivered { self.old.undelivered ≡ None }
         requires stamp { (node_of self.old.node).stamp < 2 ^ 56 }
         requires may { may_execute (standing self.old.node) ≡ true }
-        ensures hand { self.new.hand ≡ None }
+        ensures undelivered { self.new.undelivered ≡ None }
         ensures works { OnOk result (Works self.old self.new) }
     {
         pass_gate(gate, self.number, &mut self.events);
@@ -367,18 +367,18 @@ impl<'a> Worker<'a> {
     /// Executes a word.
     fn exec(&mut self, pace: &mut Pace) -> Result<(), AllocError>
         requires rows { HasRows self.old }
-        requires hand { self.old.hand ≡ None }
+        requires undelivered { self.old.undelivered ≡ None }
         requires stamp { (node_of self.old.node).stamp < 2 ^ 56 }
         requires may { may_execute (standing self.old.node) ≡ true }
-        ensures hand { self.new.hand ≡ None }
+        ensures undelivered { self.new.undelivered ≡ None }
         ensures works { OnOk result (Works self.old self.new) }
     {
         self.node.room()?;
-        let turn = self.node.exec(&mut self.posts);
-        if !self.posts.is_empty() {
-            pace.posted = true;
+        let turn = self.node.exec_into(&mut self.outgoing);
+        if !self.outgoing.is_empty() {
+            pace.outgoing = true;
         }
-        post(&mut self.outs, turn.stamp, &mut self.posts)
+        queue_sends(&mut self.outboxes, turn.stamp, &mut self.outgoing)
     }
 
     /// Looks at the links by sender, and takes the first message that is there. Says whether there
@@ -390,32 +390,30 @@ impl<'a> Worker<'a> {
         pace: &mut Pace,
     ) -> Result<bool, AllocError>
         requires rows { HasRows self.old }
-        requires hand { self.old.hand ≡ None }
+        requires undelivered { self.old.undelivered ≡ None }
         requires stamp { (node_of self.old.node).stamp < 2 ^ 56 }
         requires may { may_take (standing self.old.node) ≡ true }
         ensures works { OnOk result (Works self.old self.new) }
         ensures none { result ≡ Ok false
-            → (self.new.hand ≡ None) × (self.new.node ≡ self.old.node) }
+            → (self.new.undelivered ≡ None) × (self.new.node ≡ self.old.node) }
     {
-        if !pace.mail {
+        if !pace.has_mail() {
             return Ok(false);
         }
-        for from in 0..u8::MAX {
-            if usize::from(from) >= self.takes.len() {
-                pace.mail = false;
-                return Ok(false);
-            }
+        let links = self.takes.len().min(255) as u8;
+        for from in 0..links {
             if self.poll_link(rt, gate, from)? {
                 pace.took();
-                pace.posted = true;
+                pace.outgoing = true;
                 return Ok(true);
             }
         }
+        pace.found_none();
         Ok(false)
     }
 
     /// Looks at the link from a node, and takes a message that is there. Where its stamp is out of
-    /// range it stays in hand.
+    /// range it stays in undelivered.
     fn poll_link<R: Wait, G: Gate>(
         &mut self,
         rt: &R,
@@ -424,24 +422,24 @@ impl<'a> Worker<'a> {
     ) -> Result<bool, AllocError>
         requires rows { HasRows self.old }
         requires from { from < length self.old.takes.items }
-        requires hand { self.old.hand ≡ None }
+        requires undelivered { self.old.undelivered ≡ None }
         requires stamp { (node_of self.old.node).stamp < 2 ^ 56 }
         requires may { may_take (standing self.old.node) ≡ true }
         ensures works { OnOk result (Works self.old self.new) }
         ensures none { result ≡ Ok false
-            → (self.new.hand ≡ None) × (self.new.node ≡ self.old.node) }
+            → (self.new.undelivered ≡ None) × (self.new.node ≡ self.old.node) }
     {
         let Some(wire) = self.takes[usize::from(from)].pop(rt) else {
             return Ok(false);
         };
         if wire.stamp >= STAMPS {
-            self.hand = Some((from, wire));
+            self.undelivered = Some((from, wire));
             return Ok(true);
         }
         pass_gate(gate, self.number, &mut self.events);
         self.node.room()?;
-        let turn = self.node.take(from, wire, &mut self.posts);
-        post(&mut self.outs, turn.stamp, &mut self.posts)?;
+        let turn = self.node.take_into(from, wire, &mut self.outgoing);
+        queue_sends(&mut self.outboxes, turn.stamp, &mut self.outgoing)?;
         Ok(true)
     }
 }

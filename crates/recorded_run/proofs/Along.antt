@@ -62,8 +62,7 @@ module _ (work : Work) (plan : List PlanEntry) (r : Record) (picks : List Pick)
   told_picks : picks_made (trace_of work plan stands.are.told) ≡ length picks
   told_picks =
       ap length (of_trace work plan reserve (map what_told stands.are.told) stands.are.whole.made
-      ∙ sym stands.are.picks_are)
-      ∙ length-map picks pick_of
+      ∙ sym stands.are.picks_are) ∙ length-map picks pick_of
 
   pub whole_picks : (trace : List Traced) → IsTraceOf work plan r trace → picks_made trace ≡ length picks
   whole_picks trace whole =

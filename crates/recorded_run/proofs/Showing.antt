@@ -25,13 +25,11 @@ use Rattle.debugged_run.specs.Motions as of_run
 use Rattle.debugged_run.specs.Motions.{mover_at}
 use Rattle.debugged_run.specs.time_machine.Moves.{EndsBackward}
 use Rattle.debugged_run.specs.time_machine.Stand.{Run, Stand}
-use Rattle.recorded_run.specs.Commands.{command_of}
-use Rattle.recorded_run.specs.declared.command.Command.{Command}
 use Rattle.recorded_run.specs.declared.command.Command.TheVariants.{Miss}
 use Rattle.recorded_run.specs.declared.walk.LastEvent.{LastEvent}
 use Rattle.recorded_run.specs.declared.walk.Walk.{Walk}
 use Rattle.recorded_run.specs.Shown.{AreFewest, AreFirst, AreShown, AreUpTo, Recorded, StandsFor, last_of, name_of, work_shown}
-use Rattle.recorded_run.specs.Tells.{GoesBackToWrite, Looks, Moves, Tells, TellsAs, moved, no_miss_text, write_text, writes}
+use Rattle.recorded_run.specs.Tells.{GoesBackToWrite, Looks, Moves, TellsAs, moved, no_miss_text, write_text, writes}
 use Rattle.recorded_run.specs.Walks.{GoesToNext, HasWalked, HoldsTogether, behind_none, IsAlong, IsAlongShown, IsKept, IsOfPicks, IsWalking, StandsAt, StandsBehind, StaysAlong}
 use Rattle.recorded_run.proofs.Along.{first_of}
 use Rattle.recorded_run.proofs.Walking.{last_more}
@@ -322,8 +320,3 @@ moves_there s first d m points told t same moves there stand = (
       (subst (λ (x : Stand). of_run.Moves x m points told d) same moves),
   there ∙ ap (λ (x : Stand). record s { stand = x; behind = None }) (sym stand),
 )
-
--- a command by its text
-pub tells_by : (s t : Recorded) (text told : List ℕ) (k o : Command) → o ≡ command_of text → o ≡ k → TellsAs s k told t
-    → Tells s text told t
-tells_by s t text told k o by is tells = subst (λ (x : Command). TellsAs s x told t) (sym is ∙ by) tells

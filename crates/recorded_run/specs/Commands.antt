@@ -4,7 +4,7 @@ use Rattle.gdb_session.specs.gdb_remote.Hexadecimal.{digit_value}
 use Rattle.recorded_run.specs.declared.command.Command.{Command}
 use Rattle.recorded_run.specs.declared.command.Command.TheVariants.{Where, Output, Node, Block, Miss, BackToWrite, Unknown}
 
--- what stands behind this beginning of a text, if the text begins so
+-- what stands after this beginning of a text, if the text begins so
 abbrev pub behind : List ℕ → List ℕ → Option (List ℕ)
 behind head text =
     if bytes_eq (take (length head) text) head then Some (drop (length head) text) else None
@@ -20,7 +20,7 @@ node_of (c ∷ d ∷ []) =
     (digit_of c)
 node_of text = None
 
--- the number that hexadecimal digits write behind those of a number, if it has at most 32 bits
+-- the number that hexadecimal digits write after those of a number, if it has at most 32 bits
 abbrev pub number_behind : ℕ → List ℕ → Option ℕ
 number_behind n [] = Some n
 number_behind n (c ∷ cs) =
@@ -33,7 +33,7 @@ abbrev pub number_of : List ℕ → Option ℕ
 number_of [] = None
 number_of (c ∷ cs) = number_behind 0 (c ∷ cs)
 
--- an address in hexadecimal digits behind `0x`
+-- an address in hexadecimal digits after `0x`
 abbrev pub address_of : List ℕ → Option ℕ
 address_of text = option_and_then number_of (behind (codes "0x") text)
 

@@ -1,6 +1,8 @@
 -- What is told of nodes and blocks.
 use Rattle.std.specs.Prelude.{◌≡◌, ℕ, ◌<◌, zero, suc, nat_lt, true, false, if◌then◌else◌, List, [], ◌++◌, Option, Some, None, is_some, codes}
 use Rattle.std.specs.Fmt.{decimal}
+use Rattle.rv32_program.specs.declared.Exit.{Exit}
+use Rattle.rv32_program.specs.declared.End.TheVariants as end
 use Rattle.block_layout.specs.Layout.{Shape, blocks, home}
 use Rattle.state_table.specs.declared.State.{State}
 use Rattle.home_directory.specs.declared.directory.Busy.{Busy}
@@ -10,11 +12,11 @@ use Rattle.home_directory.specs.declared.wait.Answer.TheVariants.{ByData, ByGran
 use Rattle.home_directory.specs.Home.{DirectoryEntry}
 use Rattle.node_model.specs.declared.Standing.{Standing}
 use Rattle.node_model.specs.declared.Standing.TheVariants as standing
-use Rattle.node_model.specs.Node.{Node, Work, standing_of}
+use Rattle.node_model.specs.Node.{Node, Work, end_of, standing_of}
 use Rattle.node_model.specs.Turns.{block_at}
 use Rattle.node_model.specs.Core.{Core}
 use Rattle.debugged_run.specs.gdb_session.declared.target.Doing.{Doing}
-use Rattle.debugged_run.specs.gdb_session.declared.target.Doing.TheVariants.{Runs, Exited, Waits}
+use Rattle.debugged_run.specs.gdb_session.declared.target.Doing.TheVariants.{Runs, Exited, Stopped, Waits}
 use Rattle.event_text.specs.Names.{state_name, need_name}
 use Rattle.event_text.specs.Parts.{text_if}
 
@@ -81,11 +83,14 @@ pub record IsFirstWait (n : Node) (b : ℕ) : Type 0 where
 abbrev pub HasNoWait : Shape → Node → Type 0
 HasNoWait layout n = (b : ℕ) → b < blocks layout → is_some (n.wait b) ≡ false
 
--- what a node does: it waits, which is told by the first block, or it runs
+-- what a node does: it waits, which is told by the first block; or it runs, and has no end; or it
+-- ended by itself, or the budget stopped it
 abbrev pub NodeDoes : Work → Node → Doing → Type 0
 NodeDoes work n (Waits b) = (standing_of work n ≡ standing.Waiting) × IsFirstWait n b
-NodeDoes work n Runs = standing_of work n ≡ standing.Waiting → HasNoWait work.layout n
-NodeDoes work n Exited = ⊥
+NodeDoes work n Runs =
+    (end_of n.phase ≡ None) × (standing_of work n ≡ standing.Waiting → HasNoWait work.layout n)
+NodeDoes work n Exited = (exit : Exit) × (end_of n.phase ≡ Some (end.Exited exit))
+NodeDoes work n Stopped = (budget : ℕ) × (end_of n.phase ≡ Some (end.Stopped budget))
 
 -- 2. A block
 

@@ -21,7 +21,7 @@ use Rattle.debugged_run.specs.one_memory.Shown.{pick_of}
 use Rattle.recorded_run.specs.declared.walk.LastEvent.{LastEvent}
 
 -- a position in the run on one memory; the rewritten code that the nodes run, and how much of it;
--- the record of their run; and the event behind which they are shown, if one was named
+-- the record of their run; and the event after which they are shown, if one was named
 pub record Recorded : Type 0 where
   pub stand : Stand
   pub image : List Cell
@@ -46,7 +46,7 @@ pub record StandsFor (work : Work) (plan : List PlanEntry) (r : Record) (picks :
     pub are : ArePicksOf work plan r (map pick_of picks)
 
 -- This is the trace of the first events that the record tells of, and these are the nodes and lists
--- behind them.
+-- after them.
 pub record AreFirst (work : Work) (plan : List PlanEntry) (r : Record) (seen : List Traced)
     (c : Core) : Type 0
   where
@@ -74,13 +74,13 @@ last_or last (x ∷ xs) = last_or (Some (name_of x)) xs
 abbrev pub last_of : List Traced → Option LastEvent
 last_of seen = last_or None seen
 
--- the nodes are shown behind the event that was named, or behind the fewest that make the picks up
+-- the nodes are shown after the event that was named, or after the fewest that make the picks up
 -- to the position
 abbrev pub AreUpTo : Option LastEvent → (position : ℕ) → List Traced → Type 0
 AreUpTo None k seen = AreFewest k seen
 AreUpTo (Some e) k seen = last_of seen ≡ Some e
 
--- the nodes that are shown, and the events behind which they stand
+-- the nodes that are shown, and the events after which they stand
 pub record AreShown (s : Recorded) (seen : List Traced) (c : Core) : Type 0 where
   pub first : AreFirst (work_shown s) s.plan s.kept seen c
   pub up_to : AreUpTo s.behind s.stand.position seen

@@ -1,17 +1,20 @@
 -- What the commands of `monitor` tell, and where they leave the run.
-use Rattle.std.specs.Prelude.{◌≡◌, ℕ, Bool, true, false, List, [], ◌∷◌, ◌++◌, ◌⊎◌, length, All, Option, Some, None, codes}
+use Rattle.std.specs.Prelude.{◌≡◌, ℕ, ◌-◌, ◌==◌, ◌&&◌, not, min, Bool, true, false, if◌then◌else◌, List, [], ◌∷◌, ◌++◌, ◌⊎◌, length, All, Option, Some, None, is_some, codes}
 use Rattle.std.specs.Fmt.{decimal}
 use Rattle.event_text.specs.node_machine.Wanted.{block_with}
 use Rattle.event_text.specs.run_trace.node_model.Core.{Core}
 use Rattle.event_text.specs.run_trace.Trace.{IsTraceOf}
-use Rattle.event_text.specs.run_trace.Traced.{What, Word, Taken, Traced}
+use Rattle.event_text.specs.run_trace.Misses.{is_miss as asks}
+use Rattle.event_text.specs.run_trace.Traced.{Traced}
 use Rattle.event_text.specs.Events.{event_line}
-use Rattle.event_text.specs.Shown.{has_wants}
 use Rattle.debugged_run.specs.gdb_session.gdb_remote.declared.request.Point.{Point}
 use Rattle.debugged_run.specs.gdb_session.declared.target.Doing.{Doing}
-use Rattle.debugged_run.specs.gdb_session.declared.target.Doing.TheVariants.{Exited}
+use Rattle.debugged_run.specs.gdb_session.declared.target.Doing.TheVariants.{Exited, Stopped}
 use Rattle.debugged_run.specs.gdb_session.declared.target.Motion.{Motion}
 use Rattle.debugged_run.specs.gdb_session.declared.target.Stop.{Stop}
+use Rattle.debugged_run.specs.gdb_session.declared.target.Why.{Why}
+use Rattle.debugged_run.specs.gdb_session.declared.target.Why.TheVariants as why
+use Rattle.debugged_run.specs.one_memory.declared.Pick.{Pick}
 use Rattle.debugged_run.specs.time_machine.declared.stops.StopPoint.{StopPoint}
 use Rattle.debugged_run.specs.time_machine.declared.stops.StopPoint.TheVariants.{Watch as Watched}
 use Rattle.debugged_run.specs.time_machine.declared.stops.WatchKind.TheVariants as watch
@@ -52,23 +55,19 @@ unknown_text =
 
 -- 2. Misses
 
--- the same run at a position, its nodes behind an event, if one is named
+-- the same run at a position, its nodes after an event, if one is named
 abbrev pub moved : Recorded → (position : ℕ) → Option LastEvent → Recorded
 moved s position behind =
     record s { stand = record s.stand { position = position }; behind = behind }
 
--- a word that wants a block
-abbrev pub is_miss_by : What → Bool
-is_miss_by (Word w) = has_wants w.wants
-is_miss_by (Taken t) = false
-
+-- a word that asks for a block
 abbrev pub is_miss : Traced → Bool
-is_miss x = is_miss_by x.what
+is_miss x = asks x.what
 
 abbrev pub IsNoMiss : Traced → Type 0
 IsNoMiss x = is_miss x ≡ false
 
--- behind these events the next that is a miss was made, and it is told of
+-- after these events the next that is a miss was made, and it is told of
 pub record GoesToMiss (s : Recorded) (seen : List Traced) (told : List ℕ) (t : Recorded) : Type 0
   where
     pub more : List Traced
@@ -81,7 +80,7 @@ pub record GoesToMiss (s : Recorded) (seen : List Traced) (told : List ℕ) (t :
     pub goes : t
         ≡ moved s (picks_made (seen ++ (more ++ miss ∷ []))) (Some (name_of miss))
 
--- the record tells of no miss behind these events, and the run goes to its end
+-- the record tells of no miss after these events, and the run goes to its end
 pub record GoesToEnd (s : Recorded) (seen : List Traced) (told : List ℕ) (t : Recorded) : Type 0
   where
     pub more : List Traced
@@ -129,9 +128,35 @@ TellsAs s Miss told t =
 TellsAs s (BackToWrite a) told t = GoesBackToWrite s a told t
 TellsAs s Unknown told t = (told ≡ unknown_text) × (t ≡ s)
 
+-- why a run stands at a position
+abbrev pub why_at : List Pick → (position : ℕ) → Why
+why_at picks k =
+    if k == 0 then why.Beginning else if k == length picks then why.End else why.Stepped
+
+-- where a run stands: at the processor of the node that made the event after which the nodes are
+-- shown, if one was named; else at that of the next pick, or of the last at the end
+abbrev pub stands_by : Option LastEvent → List Pick → (position : ℕ) → Stop
+stands_by None picks k =
+    record { processor = mover_at picks (min k (length picks - 1)); why = why_at picks k }
+stands_by (Some e) picks k = record { processor = e.node; why = why.Stepped }
+
+abbrev pub stands : Recorded → Stop
+stands s = stands_by s.behind s.stand.run.picks s.stand.position
+
+-- what is told of where the run stands after a command, if that moved it
+abbrev pub stop_after : Command → Recorded → Option Stop
+stop_after Miss t = Some (stands t)
+stop_after (BackToWrite a) t = Some (stands t)
+stop_after Where t = None
+stop_after Output t = None
+stop_after (Node i) t = None
+stop_after (Block a) t = None
+stop_after Unknown t = None
+
 -- a command tells this, and leaves the run so
-abbrev pub Tells : Recorded → (command told : List ℕ) → Recorded → Type 0
-Tells s text told t = TellsAs s (command_of text) told t
+abbrev pub Tells : Recorded → (command told : List ℕ) → Option Stop → Recorded → Type 0
+Tells s text told stop t =
+    TellsAs s (command_of text) told t × (stop ≡ stop_after (command_of text) t)
 
 -- a motion goes to another position, and the nodes are shown there
 abbrev pub Moves : Recorded → Motion → List Point → Stop → Recorded → Type 0
@@ -145,10 +170,15 @@ abbrev pub DoesAsNode : Recorded → (processor : ℕ) → Doing → Type 0
 DoesAsNode s p d =
     (seen : List Traced) × (c : Core) × AreShown s seen c × NodeDoes (work_shown s) (c.nodes p) d
 
--- but for one that has ended
-abbrev pub DoesUnless : (ended : Bool) → Recorded → (processor : ℕ) → Doing → Type 0
-DoesUnless true s p d = d ≡ Exited
-DoesUnless false s p d = DoesAsNode s p d
+-- the run is at its end, and no event is named
+abbrev pub is_at_end : Recorded → Bool
+is_at_end s = not (is_some s.behind) && s.stand.position == length s.stand.run.picks
+
+-- but for one that ended by itself, and for the others at the end, which the budget stopped
+abbrev pub DoesUnless : (ended at_end : Bool) → Recorded → (processor : ℕ) → Doing → Type 0
+DoesUnless true at_end s p d = d ≡ Exited
+DoesUnless false true s p d = d ≡ Stopped
+DoesUnless false false s p d = DoesAsNode s p d
 
 abbrev pub Does : Recorded → (processor : ℕ) → Doing → Type 0
-Does s p d = DoesUnless (has_ended s.stand p) s p d
+Does s p d = DoesUnless (has_ended s.stand p) (is_at_end s) s p d

@@ -107,7 +107,7 @@ abbrev pub IsKept : Work → List PlanEntry → Record → Option Walk → Type 
 IsKept work plan r None = Unit {0}
 IsKept work plan r (Some w) = IsAlong work plan r w × IsWalking w
 
--- the walk that is kept stands behind this event
+-- the walk that is kept stands after this event
 abbrev pub StandsBehind : Option Walk → LastEvent → Type 0
 StandsBehind None e = ⊥
 StandsBehind (Some w) e = w.last ≡ Some e
@@ -137,6 +137,6 @@ pub record StandsAt (s : Recorded) (w : Walk) : Type 0 where
   pub walked : HasWalked w seen
   pub up_to : AreUpTo s.behind s.stand.position seen
 
--- the nodes are shown behind the fewest events again
+-- the nodes are shown after the fewest events again
 abbrev pub behind_none : Recorded → Recorded
 behind_none s = record s { behind = None }

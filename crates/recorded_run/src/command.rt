@@ -18,7 +18,7 @@ pub enum Command {
     Node(u8),
     /// What the home of this address' block keeps of it, and its state at each node.
     Block(u32),
-    /// Behind the next word that wants a block.
+    /// After the next word that wants a block.
     Miss,
     /// Back to before the last write of the byte at this address.
     BackToWrite(u32),
@@ -102,7 +102,7 @@ fn node_of(text: &[u8]) -> Option<u8>
     Some(10 * tens + ones)
 }
 
-/// The address that hexadecimal digits behind `0x` write.
+/// The address that hexadecimal digits after `0x` write.
 fn address_of(text: &[u8]) -> Option<u32>
     ensures { result ≡ model.address_of text.now }
 {

@@ -1,8 +1,8 @@
 //! What is told of nodes and blocks.
 
-ghost use Rattle.std.specs.Prelude.{◌≡◌, ◌++◌, ◌<◌, IfOk, MatchOption, OnOk};
+ghost use Rattle.std.specs.Prelude.{◌≡◌, ◌++◌, ◌<◌, IfOk, MatchOption, None, OnOk};
 ghost use Rattle.block_layout.specs.Layout.{blocks};
-ghost use Rattle.node_model.specs.Node.{standing_of};
+ghost use Rattle.node_model.specs.Node.{end_of, standing_of};
 ghost use Rattle.node_model.specs.Turns.{block_at};
 ghost use Rattle.event_text.specs.replay.dsm_core.CoreParts.{core_of, work_of};
 ghost use Rattle.event_text.specs.node_machine.NodeState.{node_of, work_of as work_at};
@@ -16,6 +16,7 @@ use event_text::run_trace::replay::dsm_core::Core;
 use event_text::{need_name, push_decimal, push_if, state_name};
 use home_directory::{Answer, Busy, Wait};
 use node_model::Standing;
+use rv32_program::End;
 use state_table::State;
 use std::alloc::{AllocError, Global};
 
@@ -34,7 +35,7 @@ pub(crate) fn node_text(alloc: Global, core: &Core<'_>, node: u8) -> Result<Vec<
     Ok(text)
 }
 
-/// Appends that none of so many nodes has a number.
+/// Appends that none of `nodes` nodes has a number.
 fn push_no_node(out: &mut Vec<u8>, node: u8, nodes: u8) -> Result<(), AllocError>
     ensures { OnOk result (out.new.items ≡ out.old.items ++ model.no_node_text node nodes) }
 {
@@ -153,8 +154,21 @@ pub(crate) fn doing_of(core: &Core<'_>, processor: u16) -> Doing
     // brings: there are at most 16 nodes
     let _nodes = core.layout().nodes();
     let node = core.node(processor as u8);
+    match node.end() {
+        Some(End::Exited(_)) => Doing::Exited,
+        Some(End::Stopped(_)) => Doing::Stopped,
+        None => goes_on(core.layout(), node),
+    }
+}
+
+/// What a node does that has no end.
+fn goes_on(layout: &Layout, node: &Node<'_>) -> Doing
+    requires layout { layout.now ≡ (work_at node.now).layout }
+    requires goes_on { end_of (node_of node.now).phase ≡ None }
+    ensures { model.NodeDoes (work_at node.now) (node_of node.now) result }
+{
     match node.standing() {
-        Standing::Waiting => waits_of(core.layout(), node),
+        Standing::Waiting => waits_of(layout, node),
         Standing::Running | Standing::AtPoll | Standing::Ended | Standing::Over => Doing::Runs,
     }
 }
@@ -162,6 +176,7 @@ pub(crate) fn doing_of(core: &Core<'_>, processor: u16) -> Doing
 /// What a node does that waits.
 fn waits_of(layout: &Layout, node: &Node<'_>) -> Doing
     requires layout { layout.now ≡ (work_at node.now).layout }
+    requires goes_on { end_of (node_of node.now).phase ≡ None }
     requires waits { standing_of (work_at node.now) (node_of node.now) ≡ Standing.Waiting }
     ensures { model.NodeDoes (work_at node.now) (node_of node.now) result }
 {

@@ -1,6 +1,7 @@
 //! A recorded run, as a target of the debugger.
 
 ghost use Rattle.std.specs.Prelude.{◌≡◌, ◌<◌, true, IfOk, OnOk, None, Some};
+ghost use Rattle.recorded_run.specs.Tells as model;
 
 use crate::command::{Command, command_of};
 use crate::nodes::{block_text, doing_of, node_text};
@@ -8,7 +9,7 @@ use crate::texts::{no_miss_text, push_last, unknown_text, write_text};
 use crate::walk::{LastEvent, Walk};
 use block_layout::Layout;
 use debugged_run::gdb_session::gdb_remote::Point;
-use debugged_run::gdb_session::{Doing, Motion, Stop, Target};
+use debugged_run::gdb_session::{Doing, Motion, Stop, Target, Told, Why};
 use debugged_run::time_machine::one_memory::Pick;
 use debugged_run::time_machine::{StopPoint, Watch, WatchKind};
 use debugged_run::{DebuggedRun, mover_at};
@@ -21,7 +22,7 @@ use std::marker::Model;
 use templates::{Code, Plan};
 
 /// A recorded run, seen from a position in the run on one memory that it stands for. The nodes are
-/// shown behind the fewest events that make the picks up to there, or behind the event to which a
+/// shown after the fewest events that make the picks up to there, or after the event to which a
 /// command went. A motion or a command that runs out of memory may end at any position.
 #[derive(Drop)]
 pub struct RecordedRun<'a> {
@@ -32,7 +33,7 @@ pub struct RecordedRun<'a> {
     kept: &'a Record,
     /// A walk that may be gone on with.
     walk: Option<Walk<'a>>,
-    /// The event behind which the walk stands where the nodes are shown, if one was named.
+    /// The event after which the walk stands where the nodes are shown, if one was named.
     behind: Option<LastEvent>,
 }
 
@@ -68,7 +69,7 @@ impl<'a> RecordedRun<'a> {
     ghost use Rattle.recorded_run.specs.Walks.{behind_none, comes_to};
 
     /// The run of a record, which stands for these picks, at its start. Of the run on one memory it
-    /// keeps copies of the processors, in so many megabytes of 2^20 bytes.
+    /// keeps copies of the processors, in at most `megabytes` megabytes of 2^20 bytes.
     pub fn new(
         alloc: Global,
         work: &Work<'a>,
@@ -158,7 +159,7 @@ impl<'a> RecordedRun<'a> {
         Ok(walk)
     }
 
-    /// Keeps a walk, and shows the nodes behind an event, if one is named: the walk's last.
+    /// Keeps a walk, and shows the nodes after an event, if one is named: the walk's last.
     fn keep(&mut self, walk: Walk<'a>, behind: Option<LastEvent>)
         requires along { IsAlongShown self.old walk }
         requires walking { IsWalking walk }
@@ -217,7 +218,7 @@ impl<'a> RecordedRun<'a> {
         Ok(doing)
     }
 
-    /// Goes behind the next word that wants a block, and tells of it; or to the end of the run.
+    /// Goes after the next word that wants a block, and tells of it; or to the end of the run.
     fn go_to_miss(&mut self, alloc: Global) -> Result<Vec<u8>, AllocError>
         ensures { IfOk result (λ told. TellsAs self.old commands.Miss told.items self.new) }
     {
@@ -233,6 +234,61 @@ impl<'a> RecordedRun<'a> {
         let last = walk.last();
         self.keep(walk, last);
         Ok(text)
+    }
+
+    /// Whether the run is at its end, and the nodes aren't shown after an event that was named.
+    fn is_at_end(&self) -> bool
+        ensures { result ≡ model.is_at_end self.now }
+    {
+        self.behind.is_none() && self.debugged.position() == self.debugged.picks().len()
+    }
+
+    /// Does a command, and tells what comes of it.
+    fn tell(&mut self, alloc: Global, command: Command) -> Result<Vec<u8>, AllocError>
+        ensures { IfOk result (λ told. TellsAs self.old command told.items self.new) }
+    {
+        match command {
+            Command::Where => self.tell_where(alloc),
+            Command::Output => self.debugged.tell(alloc, b"output"),
+            Command::Node(node) => self.tell_node(alloc, node),
+            Command::Block(address) => self.tell_block(alloc, address),
+            Command::Miss => self.go_to_miss(alloc),
+            Command::BackToWrite(address) => self.go_back_to_write(alloc, address),
+            Command::Unknown => unknown_text(alloc),
+        }
+    }
+
+    /// Where the run stands after a command, if that moved it.
+    fn stop_after(&self, command: Command) -> Option<Stop>
+        ensures { result ≡ model.stop_after command self.now }
+    {
+        match command {
+            Command::Miss | Command::BackToWrite(_) => Some(self.stands()),
+            Command::Where
+            | Command::Output
+            | Command::Node(_)
+            | Command::Block(_)
+            | Command::Unknown => None,
+        }
+    }
+
+    /// Where the run stands: at the processor of the node after whose event the nodes are shown,
+    /// if one was named; else at that of the next pick, or of the last at the end.
+    fn stands(&self) -> Stop
+        ensures { result ≡ model.stands self.now }
+    {
+        if let Some(event) = self.behind {
+            return Stop {
+                processor: u16::from(event.node),
+                why: Why::Stepped,
+            };
+        }
+        let picks = self.debugged.picks();
+        let position = self.debugged.position();
+        Stop {
+            processor: mover_at(picks, position.min(picks.len().saturating_sub(1))),
+            why: why_at(picks, position),
+        }
     }
 
     /// Goes back to before the last write of a byte, and tells whose it is; or to the start.
@@ -281,6 +337,9 @@ impl<'a> Target for RecordedRun<'a> {
         if self.debugged.has_ended(processor) {
             return Ok(Doing::Exited);
         }
+        if self.is_at_end() {
+            return Ok(Doing::Stopped);
+        }
         self.doing_of_node(alloc, processor)
     }
 
@@ -289,16 +348,26 @@ impl<'a> Target for RecordedRun<'a> {
         self.debugged.go_on(motion, points)
     }
 
-    fn command(&mut self, alloc: Global, text: &[u8]) -> Result<Vec<u8>, AllocError> {
-        match command_of(text) {
-            Command::Where => self.tell_where(alloc),
-            Command::Output => self.debugged.tell(alloc, b"output"),
-            Command::Node(node) => self.tell_node(alloc, node),
-            Command::Block(address) => self.tell_block(alloc, address),
-            Command::Miss => self.go_to_miss(alloc),
-            Command::BackToWrite(address) => self.go_back_to_write(alloc, address),
-            Command::Unknown => unknown_text(alloc),
-        }
+    fn command(&mut self, alloc: Global, text: &[u8]) -> Result<Told, AllocError> {
+        let command = command_of(text);
+        let text = self.tell(alloc, command)?;
+        Ok(Told {
+            text,
+            stop: self.stop_after(command),
+        })
+    }
+}
+
+/// Why a run stands at a position.
+fn why_at(picks: &[Pick], position: usize) -> Why
+    ensures { result ≡ model.why_at picks.now position }
+{
+    if position == 0 {
+        Why::Beginning
+    } else if position == picks.len() {
+        Why::End
+    } else {
+        Why::Stepped
     }
 }
 

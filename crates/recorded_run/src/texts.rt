@@ -24,7 +24,7 @@ pub(crate) fn push_last(out: &mut Vec<u8>, last: Option<LastEvent>) -> Result<()
     Ok(())
 }
 
-/// What is told of the last write of a byte: whether one was found, and of which processor.
+/// What is told of the last write of a byte: whether one was found, and whose it was.
 pub(crate) fn write_text(
     alloc: Global,
     hit: Option<usize>,

@@ -5,7 +5,6 @@ ghost use Rattle.event_text.specs.run_trace.Given.{traced_of};
 ghost use Rattle.event_text.specs.run_trace.Traced.{Traced as OfEvent};
 ghost use Rattle.event_text.specs.run_trace.Tracing.{HasTraced, HasGoneOn, IsFewer, IsSame};
 ghost use Rattle.event_text.specs.run_trace.Tracing.{record_traced, work_traced};
-ghost use Rattle.recorded_run.specs.Tells.{is_miss as model_is_miss};
 ghost use Rattle.recorded_run.specs.Walks.{TellsWhole};
 
 use debugged_run::time_machine::one_memory::Pick;
@@ -13,7 +12,7 @@ use event_text::run_trace::replay::dsm_core::{Core, Work};
 use event_text::run_trace::replay::rewriting_law::interleaving_law;
 use event_text::run_trace::replay::run_record::Record;
 use event_text::run_trace::replay::{ReplayRefused, WordsAhead, replay_law};
-use event_text::run_trace::{Traced, Tracer, What};
+use event_text::run_trace::{Traced, Tracer, is_miss};
 use record_picks::pick_of;
 use std::alloc::{AllocError, Global};
 use templates::{Code, Plan};
@@ -33,7 +32,7 @@ pub struct Walk<'a> {
     picks: usize,
     /// The last event, if one was made.
     last: Option<LastEvent>,
-    /// No fewer events make so many picks.
+    /// No fewer events make as many picks.
     fewest: bool,
 }
 
@@ -96,7 +95,7 @@ impl<'a> Walk<'a> {
         self.last
     }
 
-    /// Whether the walk comes to the fewest events that make so many picks.
+    /// Whether the walk comes to the fewest events that make `picks` picks.
     pub(crate) fn comes_to(&self, picks: usize) -> bool
         ensures { result ≡ comes_to self.now picks }
     {
@@ -132,8 +131,8 @@ impl<'a> Walk<'a> {
         Ok(Some(event))
     }
 
-    /// Makes words that only compute or access memory, as long as such words come next, up to so
-    /// many picks. Behind them it isn't known which event was the last.
+    /// Makes words that only compute or access memory, as long as such words come next, up to
+    /// `most` picks. After them it isn't known which event was the last.
     fn make_silent(&mut self, most: usize)
         requires counting { IsCounting self.old }
         requires few { self.old.picks ≤ most }
@@ -154,8 +153,8 @@ impl<'a> Walk<'a> {
         }
     }
 
-    /// Makes words of a stretch, as long as they only compute or access memory, up to so many
-    /// picks. It says whether it made all, and more picks are left.
+    /// Makes words of a stretch, as long as they only compute or access memory, up to `most` picks.
+    /// It says whether it made all, and more picks are left.
     fn make_stretch(&mut self, stretch: WordsAhead, most: usize) -> bool
         requires counting { IsCounting self.old }
         requires stretch { IsStretch (replayer_in (tracer_of self.old)) stretch }
@@ -183,7 +182,7 @@ impl<'a> Walk<'a> {
         true
     }
 
-    /// Makes the fewest events that make so many picks.
+    /// Makes the fewest events that make `position` picks.
     pub(crate) fn go_to(&mut self, picks: &[Pick], position: usize) -> Result<(), AllocError>
         requires walking { IsWalking self.old }
         requires of_picks { IsOfPicks self.old picks.now }
@@ -213,7 +212,7 @@ impl<'a> Walk<'a> {
         ensures same { OnOk result (StaysAlong self.old self.new) }
     {
         while let Some(event) = self.next(picks)? {
-            if is_miss(&event) {
+            if is_miss(&event.what) {
                 return Ok(Some(event));
             }
         }
@@ -244,14 +243,4 @@ fn count_of(picks: &[Pick]) -> usize
     ensures room { result < 2 ^ 64 }
 {
     picks.len()
-}
-
-/// Whether an event is a word that wants a block.
-fn is_miss(event: &Traced) -> bool
-    ensures { result ≡ model_is_miss (traced_of event.now) }
-{
-    match &event.what {
-        What::Word(word) => word.wants.is_some(),
-        What::Take(_) => false,
-    }
 }

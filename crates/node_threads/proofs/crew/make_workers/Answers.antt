@@ -17,9 +17,9 @@ nodes-preserved c =
       events = 0;
       sends = c.remove-in-nodes.result;
       takes = c.remove-in-nodes-2.result;
-      outs = c.remove-in-nodes-3.result;
-      hand = None;
-      posts = c.new.result;
+      outboxes = c.remove-in-nodes-3.result;
+      undelivered = None;
+      outgoing = c.new.result;
     } in
     let l0 = c.remove.ensures.len in let l1 = c.remove-in-nodes.ensures.len in
     let l2 = c.remove-in-nodes-2.ensures.len in let l3 = c.remove-in-nodes-3.ensures.len in
@@ -40,11 +40,11 @@ nodes-preserved c =
           (moved _ _ (λ (w : Worker). w.takes) c.nodes.workers.items w c.nodes.takes.items _ _
           (omega arith) c.remove-in-nodes-2.ensures.value c.remove-in-nodes-2.ensures.items
           i.takes);
-      outs = subst (λ l. map (λ (w : Worker). w.outs) l ++ c.remove-in-nodes-3.new.self.items
-          ≡ c.args.outs.items) (sym p)
-          (moved _ _ (λ (w : Worker). w.outs) c.nodes.workers.items w c.nodes.outs.items _ _
+      outboxes = subst (λ l. map (λ (w : Worker). w.outboxes) l ++ c.remove-in-nodes-3.new.self.items
+          ≡ c.args.outboxes.items) (sym p)
+          (moved _ _ (λ (w : Worker). w.outboxes) c.nodes.workers.items w c.nodes.outboxes.items _ _
           (omega arith) c.remove-in-nodes-3.ensures.value c.remove-in-nodes-3.ensures.items
-          i.outs);
+          i.outboxes);
     }
 
 pub returns-clause-idle : goal.returns-clause-idle

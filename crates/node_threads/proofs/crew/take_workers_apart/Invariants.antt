@@ -6,8 +6,8 @@ invariant-workers l = record {
   nodes : l.nodes.items ++ map (λ w. w.node) l.workers.items ≡ map (λ w. w.node) l.fn.workers.items;
   sends : l.sends.items ++ map (λ w. w.sends) l.workers.items ≡ map (λ w. w.sends) l.fn.workers.items;
   takes : l.takes.items ++ map (λ w. w.takes) l.workers.items ≡ map (λ w. w.takes) l.fn.workers.items;
-  outs : l.outs.items ++ map (λ w. w.outs) l.workers.items ≡ map (λ w. w.outs) l.fn.workers.items;
-  hands : l.hands.items ++ map (λ w. w.hand) l.workers.items ≡ map (λ w. w.hand) l.fn.workers.items;
+  outboxes : l.outboxes.items ++ map (λ w. w.outboxes) l.workers.items ≡ map (λ w. w.outboxes) l.fn.workers.items;
+  undelivered : l.undelivered.items ++ map (λ w. w.undelivered) l.workers.items ≡ map (λ w. w.undelivered) l.fn.workers.items;
 }
 
 abbrev pub decreases-workers : goal.decreases-workers

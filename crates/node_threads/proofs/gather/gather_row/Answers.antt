@@ -7,5 +7,5 @@ returns g c =
     let none : length c.ends.sends.items ≡ 0 = search rules in
     record {
       gathers = simp append-nil at (c.ends.invariant.then [] []
-          (nothing_left _ _ _ none c.ends.invariant.outs c.ends.invariant.links));
+          (nothing_left _ _ _ none c.ends.invariant.outboxes c.ends.invariant.links));
     }

@@ -15,5 +15,4 @@ loop-rows-preserved c =
     (flat c.remove-row.new.self.items)
     ∙ ap (λ l. map (λ (q : Queue). q.wires) c.loop-rows.lists.items ++ l)
     (sym (flat_first c.loop-rows.rows.items c.remove-row.new.self.items c.remove-row.result some
-    c.remove-row.ensures.value c.remove-row.ensures.items))
-    ∙ c.loop-rows.invariant
+    c.remove-row.ensures.value c.remove-row.ensures.items)) ∙ c.loop-rows.invariant

@@ -21,8 +21,7 @@ loop-node-preserved c =
     c.home-home.ensures.home c.layout-layout.ensures.value in
     let there = state_there core (work_at at_home) (node_of at) i b c.node.ensures.value c.node-at_home.ensures.work in
     next_state core.layout (core_of core) (entry_in core.layout (core_of core) b) b i c.push_home_line.new.out.items out
-    c.push_state.new.out.items c.loop-node.invariant
-    (c.in_ok-push_state.ensures
+    c.push_state.new.out.items c.loop-node.invariant (c.in_ok-push_state.ensures
     ∙ ap (λ (e : DirectoryEntry). out ++ state_line e i (block_at (work_at at_home).layout (node_of at) b).state) kept
     ∙ ap (λ x. out ++ state_line (entry_in core.layout (core_of core) b) i x.state) there)
 

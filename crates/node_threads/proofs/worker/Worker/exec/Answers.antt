@@ -5,10 +5,10 @@ use Rattle.node_threads.proofs.worker.Worker.exec.Goals as goal
 
 pub returns-clause-works : goal.returns-clause-works
 returns-clause-works c =
-    let t = c.exec-turn in
-    on_ok c.post.result
+    let t = c.exec_into-turn in
+    on_ok c.queue_sends.result
     (λ sent. works_turn c.args.self.now _ c.room.new.self Executes t.result.stamp
-    t.new.sends.items c.requires.hand c.requires.rows c.requires.may c.room.ensures.work
+    t.new.sends.items c.requires.undelivered c.requires.rows c.requires.may c.room.ensures.work
     c.room.ensures.node t.ensures.work t.ensures.node t.ensures.sends t.ensures.stamp
-    (λ j. sym (append-nil _)) refl refl sent c.post.ensures.len)
-    c.post.ensures.wires
+    (λ j. sym (append-nil _)) refl refl sent c.queue_sends.ensures.len)
+    c.queue_sends.ensures.wires

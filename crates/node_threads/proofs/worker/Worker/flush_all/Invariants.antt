@@ -4,8 +4,8 @@ use Rattle.node_threads.proofs.worker.Worker.flush_all.Given as goal
 
 abbrev pub invariant-loop-k : goal.invariant-loop-k
 invariant-loop-k g l = record {
-  hand : l.self.hand ≡ None;
-  lists : length l.self.outs.items ≡ length l.self.sends.items;
+  undelivered : l.self.undelivered ≡ None;
+  lists : length l.self.outboxes.items ≡ length l.self.sends.items;
   same : length l.self.sends.items ≡ length l.fn.self.sends.items;
   node : l.self.node ≡ l.fn.self.node;
   works : Works l.fn.self l.self;

@@ -8,6 +8,5 @@ returns g c =
     record {
       works = on_ok c.run.result
           (λ w. works_before _ _ _ w (c.poll_links.ensures.none e).0
-          c.in_ok-poll_links.ensures.works)
-          c.run.ensures.works;
+          c.in_ok-poll_links.ensures.works) c.run.ensures.works;
     }
