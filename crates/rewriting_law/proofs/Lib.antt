@@ -1,3 +1,4 @@
+pub mod Names
 pub mod templates
 pub mod batches
 pub mod words

@@ -2,6 +2,8 @@
 pub mod Originals
 pub mod Sharing
 pub mod Advances
+pub mod SharedWords
+pub mod OneEach
 pub mod Messages
 pub mod Pending
 pub mod Wants

@@ -1,6 +1,9 @@
 #![tactic(auto)]
 //! Nodes that run rewritten code over the directory protocol do what the original processors do on
 //! one memory.
+//!
+//! It hands on [`dsm_protocol`], by whose law it is proved, and what its statements name:
+//! [`runtime_words`], [`dsm_messages`] and [`home_directory`].
 
 ghost use Rattle.std.specs.Prelude.{◌≡◌, ◌≢◌, ℕ, ◌/◌, ◌<◌, ◌≤◌, Bool, true, List, [], Some, length};
 ghost use Rattle.block_layout.specs.Layout.{IsValid};

@@ -3,38 +3,13 @@
 use Rattle.std.proofs.Common.{◌≡◌, ◌≢◌, ℕ, zero, suc, ◌+◌, ◌-◌, ◌*◌, ◌%◌, ◌^◌, ◌<◌, ◌≤◌, cond, eqb, ltb, leb, Bool, true, false, List, [], ◌∷◌, ◌++◌, length, Option, Some, None, refl, sym, ap, ◌∙◌, subst, inl, inr, arith}
 use Rattle.std.specs.Prelude.{pos, not, ◌&&◌, bit_and, bit_or, IsSome}
 use Rattle.std.proofs.lemmas.Bool.Decides.{eqb_tells, nat_tests}
-use Rattle.rv32_decode.specs.Fields.{unsigned}
-use Rattle.rv32_decode.specs.declared.Instr.{Instr}
-use Rattle.rv32_decode.specs.declared.Instr.TheVariants.{OpImm, Op, Branch, Jal}
-use Rattle.rv32_decode.specs.declared.Cond.TheVariants.{Eq}
+use Rattle.rewriting_law.proofs.Names.{unsigned, Instr, OpImm, Op, Branch, Jal, Eq, taken, Program, IsAccepted, class_at, line_of, offset_address, Live, uses, passes, Sets, reg, branch_demand, Processor, next_pc, Native, Batch, Never, Head, Fast, Fallback, Scratch, Scratches, PlanEntry, IsPlace, StartsRun, Reach, reach_of, code_from, IsRunScratch, HasRunScratches, SequenceItem, own, checking, committing, to_head, spill_by, spill, reload_by, reload, state_look, spills_of_run, reloads_of_run, mask_readable, head_items, run_items, fast_items, fallback_items, batch_items, batch_sequence, reload_count, address_in, Need, ProcessorState, NodeMemory, WordOutcome, Want, To, Waits, ByLines, only_moves, native, batch, fall_back, past_next, meets_need, refuses_need, need_of_run, execute}
 use Rattle.rv32_decode.specs.declared.ImmOp.TheVariants as imm_op
 use Rattle.rv32_decode.specs.declared.Op.TheVariants as op
-use Rattle.rv32_ops.specs.Operations.{taken}
-use Rattle.rv32_program.specs.Program.{Program, IsAccepted, class_at, line_of}
-use Rattle.rv32_program.specs.Targets.{offset_address}
-use Rattle.rv32_program.specs.Liveness.{Live, uses, passes}
-use Rattle.rv32_step.specs.declared.Demand.TheVariants.{Sets}
-use Rattle.rv32_step.specs.Registers.{reg}
-use Rattle.rv32_step.specs.Demands.{branch_demand}
-use Rattle.rv32_step.specs.OneMemory.{Processor, next_pc}
-use Rattle.runtime_words.specs.declared.RtWord.TheVariants.{Native, Batch}
-use Rattle.templates.specs.declared.commits.CommitKind.TheVariants.{Never}
-use Rattle.templates.specs.declared.places.Part.TheVariants.{Head, Fast, Fallback}
-use Rattle.templates.specs.declared.plans.Scratch.{Scratch}
-use Rattle.templates.specs.declared.plans.Scratches.{Scratches}
-use Rattle.templates.specs.declared.plans.PlanEntry.{PlanEntry}
-use Rattle.templates.specs.Places.{IsPlace}
-use Rattle.templates.specs.Plans.{StartsRun}
-use Rattle.templates.specs.declared.reaches.Reach.{Reach}
-use Rattle.templates.specs.Runs.{reach_of, code_from, IsRunScratch, HasRunScratches}
-use Rattle.templates.specs.Sequences.{SequenceItem, own, checking, committing, to_head, spill_by, spill, reload_by, reload, state_look, spills_of_run, reloads_of_run, mask_readable, head_items, run_items, fast_items, fallback_items, batch_items, batch_sequence}
-use Rattle.dsm_protocol.specs.jump_map.Image.{reload_count, address_in}
-use Rattle.home_directory.specs.dsm_messages.declared.messages.Need.{Need}
-use Rattle.dsm_protocol.specs.node_model.Node.{ProcessorState, NodeMemory, WordOutcome, Want, To, Waits, ByLines, only_moves, native, batch, fall_back, past_next, meets_need, refuses_need, need_of_run, execute}
 use Rattle.rewriting_law.proofs.templates.RegisterLemmas.{apart, equal, reg_zero, put_here, put_other, put_zero}
 use Rattle.rewriting_law.proofs.templates.States.{Suits, Later}
 use Rattle.rewriting_law.proofs.templates.Does.{SequenceKind, OfRun, place_of, place_in_batch, AtHead, Rest, Seeks, IsWanted, AreWanted, lane_at, skip_to, Leads, Does, does_later}
-use Rattle.rewriting_law.proofs.templates.Mids.{Hide, Shown, Dead, In, Holds, IsHidden, hide, shown, hiding, Free, Mid, with_reg, hide_hidden, alu_add, alu_and, alu_or, taken_zero, spill_0, spill_1, spill_2, words_if, look_again, next_aligned, mid_at, own_set, read_shown, own_next, own_sets, own_jumps, spill_does, reload_does, look_does, look_again_does}
+use Rattle.rewriting_law.proofs.templates.Mids.{Hide, Shown, Holds, IsHidden, hide, shown, hiding, Free, Mid, with_reg, hide_hidden, alu_add, alu_and, alu_or, taken_zero, spill_0, spill_1, spill_2, words_if, look_again, next_aligned, mid_at, own_set, read_shown, own_next, own_sets, own_jumps, spill_does, reload_does, look_does, look_again_does, shown_mid, shown_head}
 use Rattle.rewriting_law.proofs.batches.RunStretches.{StandAt, IsStretch, stretch_of, low_stands, high_stands}
 use Rattle.rewriting_law.proofs.batches.RunLines.{BothServe, serves_later, masked, both_met, serves_if, shared_if, unmet_if}
 use Rattle.rewriting_law.proofs.batches.RunWords.{words_do}
@@ -48,8 +23,7 @@ wants_then x reach fast rest =
     (own (Jal 0 (pos (4 * (fast + 1)))) rest)))
 
 abbrev test_then : Scratches → Reach → ℕ → List SequenceItem → List SequenceItem
-test_then x reach fast rest =
-    own (Branch Eq x.s.register 0 (pos 20)) (wants_then x reach fast rest)
+test_then x reach fast rest = own (Branch Eq x.s.register 0 (pos 20)) (wants_then x reach fast rest)
 
 abbrev looks_then : Scratches → Reach → List SequenceItem → List SequenceItem
 looks_then x reach rest =
@@ -100,8 +74,7 @@ reloads_more x rest ys =
     reload_more x.s.spilled 0 x.s.register (reload 1 x.t (reload 2 x.u rest)) ys
     ∙ ap (reload_by x.s.spilled 0 x.s.register)
     (reload_more x.t.spilled 1 x.t.register (reload 2 x.u rest) ys
-    ∙ ap (reload_by x.t.spilled 1 x.t.register)
-    (reload_more x.u.spilled 2 x.u.register rest ys))
+    ∙ ap (reload_by x.t.spilled 1 x.t.register) (reload_more x.u.spilled 2 x.u.register rest ys))
 
 -- how many words they are
 spill_length : (b : Bool) (k r : ℕ) (rest : List SequenceItem)
@@ -148,8 +121,7 @@ reloads_length x =
 holds_zero : (x : Hide) (r v : ℕ) (q : Processor) (l : ProcessorState) → Holds x r q l
     → Holds x r q (with_reg l 0 v)
 holds_zero Shown r v q l h = put_zero l.registers v r ∙ h
-holds_zero Dead r v q l h = h
-holds_zero (In k) r v q l h = h
+holds_zero other r v q l h = h
 
 -- so many words on from the next, as a jump goes
 skips_to : (s at : ℕ) → skip_to s (next_pc at) ≡ offset_address at (pos (4 * (s + 1)))
@@ -287,18 +259,11 @@ module _ (program : Program) (accepted : IsAccepted program) (place : ℕ → �
         → Does program kind a k at (spills_of_run x rest) 0 q l n
     with_three k at q l n rest head al next =
         spill_does program kind a x.s.spilled 0 s k at shown q l n
-        (spill 1 x.t (spill 2 x.u rest)) spill_0 refl (λ r. tt) (not_live x.s scratch.s) (record {
-          place = head.place;
-          running = head.running;
-          agree = head.agree;
-          private = head.private;
-          written = head.written;
-        }) al
+        (spill 1 x.t (spill 2 x.u rest)) spill_0 refl (λ r. tt) (not_live x.s scratch.s) (shown_mid program a q l head) al
         (λ j1 to1 l1 e1 al1 m1.
         spill_does program kind a x.t.spilled 1 t j1 to1 (hiding x.s.spilled 0 s shown) q l1 n
         (spill 2 x.u rest) spill_1 (rw (apart t s (λ z. scratch.s_t (sym z))) refl)
-        (free_1 x.s.spilled s) (not_live x.t scratch.t) m1 al1
-        (λ j2 to2 l2 e2 al2 m2.
+        (free_1 x.s.spilled s) (not_live x.t scratch.t) m1 al1 (λ j2 to2 l2 e2 al2 m2.
         spill_does program kind a x.u.spilled 2 u j2 to2
         (hiding x.t.spilled 1 t (hiding x.s.spilled 0 s shown)) q l2 n rest spill_2
         (rw (apart u t (λ z. scratch.t_u (sym z)), apart u s (λ z. scratch.s_u (sym z))) refl)
@@ -335,23 +300,13 @@ module _ (program : Program) (accepted : IsAccepted program) (place : ℕ → �
         reload_does program kind a x.s.spilled 0 s k at b
         (hiding x.t.spilled 1 t (hiding x.u.spilled 2 u shown)) q l n
         (reload 1 x.t (reload 2 x.u rest)) spill_0 scratch.s.nonzero
-        (rw (apart s t scratch.s_t, apart s u scratch.s_u) refl) m
-        (λ j1 to1 l1 e1 m1.
+        (rw (apart s t scratch.s_t, apart s u scratch.s_u) refl) m (λ j1 to1 l1 e1 m1.
         reload_does program kind a x.t.spilled 1 t j1 to1 b (hiding x.u.spilled 2 u shown) q l1 n
         (reload 2 x.u rest) spill_1 scratch.t.nonzero (rw (apart t u scratch.t_u) refl) m1
         (λ j2 to2 l2 e2 m2.
         reload_does program kind a x.u.spilled 2 u j2 to2 b shown q l2 n rest spill_2
         scratch.u.nonzero refl m2
         (λ j3 to3 l3 e3 m3. next j3 to3 l3 (omega (arith, e1, e2, e3)) m3)))
-
-    at_head : (b : ℕ) (q : Processor) (l : ProcessorState) → Mid program shown b q l → AtHead program b q l
-    at_head b q l m = record {
-      place = m.place;
-      running = m.running;
-      agree = m.agree;
-      private = m.private;
-      written = m.written;
-    }
 
     zero_kept : (q : Processor) (l : ProcessorState) (v : ℕ) → Mid program hides a q l
         → Mid program hides a q (with_reg l 0 v)
@@ -410,7 +365,7 @@ module _ (program : Program) (accepted : IsAccepted program) (place : ℕ → �
           → Does program kind a j to back 0 q l n
       back_does n l m j to =
           three_back x reach.base scratch j to a q l n [] m
-          (λ i to2 l2 e mid. at_head x reach.base scratch a q l2 mid)
+          (λ i to2 l2 e mid. shown_head program a q l2 mid)
 
       -- the fast part
       fast_does : (n : NodeMemory) (l : ProcessorState) → Serve n → Mid program keeps a q l → (j to : ℕ)
@@ -418,14 +373,12 @@ module _ (program : Program) (accepted : IsAccepted program) (place : ℕ → �
       fast_does n l serve m j to first =
           subst (λ xs. Does program kind a j to xs 0 q l n) (sym fast_more)
           (three_back x reach.base scratch j to a q l n
-          (run_items is (to_head (a + 4 * length is) ++ back)) m
-          (λ i to2 l2 e mid.
+          (run_items is (to_head (a + 4 * length is) ++ back)) m (λ i to2 l2 e mid.
           words_do program accepted reach run.near (reg q.registers reach.base) a place is i to2 a q
           l2 n (to_head (a + 4 * length is) ++ back) run.stand run.words
           (λ k below. (let same : head_words + (kept x + k) ≡ i + k = omega (arith, first, e) in
-          sym (ap place same) ∙ places k below)) refl serve mid
-          (λ i3 to3 p l3 n3 mid3 n4 since.
-          (refl, behind, at_head x reach.base scratch (a + 4 * length is) p l3 mid3))))
+          sym (ap place same) ∙ places k below)) refl serve mid (λ i3 to3 p l3 n3 mid3 n4 since.
+          (refl, behind, shown_head program (a + 4 * length is) p l3 mid3))))
 
       -- the jump past it
       jump_does : (k at : ℕ) (l : ProcessorState) (n : NodeMemory) → at % 4 ≡ 0 → Mid program keeps a q l
@@ -507,8 +460,7 @@ module _ (program : Program) (accepted : IsAccepted program) (place : ℕ → �
         runs n' serve y z = fast_does n' (lane_at y z l) serve (mid_at program a keeps q l y z m)
             (k + 1 + 1) (next_pc (next_pc at)) (omega (arith, count))
 
-        falls : outcome ≡ fall_back l n
-            → Leads program kind a k at K q n outcome Never outcome.move
+        falls : outcome ≡ fall_back l n → Leads program kind a k at K q n outcome Never outcome.move
         falls e = by_outcome (fall_back l n) e (refl, refl, jumps n, refl)
 
         resumes : (n' : NodeMemory) → Suits program n' → (y z : ℕ) → (b c : Bool)
@@ -519,8 +471,7 @@ module _ (program : Program) (accepted : IsAccepted program) (place : ℕ → �
         resumes n' suited y z true false e f = jumps n' y z
         resumes n' suited y z false c e f = jumps n' y z
 
-        waits : (w : Want) (more : List Want) → length more ≤ 1
-            → AreWanted program q n (w ∷ more)
+        waits : (w : Want) (more : List Want) → length more ≤ 1 → AreWanted program q n (w ∷ more)
             → outcome ≡ only_moves l n (Waits (ByLines need low_at high_at) w more)
             → Leads program kind a k at K q n outcome Never outcome.move
         waits w more few wants e =
@@ -655,8 +606,7 @@ module _ (program : Program) (accepted : IsAccepted program) (place : ℕ → �
       mask_does : (stores : Bool) (k at : ℕ) (l : ProcessorState) (n : NodeMemory) → at % 4 ≡ 0
           → k + (5 + words_if (not stores)) ≡ head_words → (v : ℕ)
           → reg l.registers x.s.register ≡ v → (eqb (masked stores v) 0 ≡ true → Serve n)
-          → Mid program keeps a q l
-          → Does program kind a k at (mask_readable stores x.s.register
+          → Mid program keeps a q l → Does program kind a k at (mask_readable stores x.s.register
           (test_then x reach (length fast) rest)) 0 q l n
       mask_does true k at l n al count v is serve m =
           test_does k at l n al (omega (arith, count)) v is serve m
@@ -706,8 +656,7 @@ module _ (program : Program) (accepted : IsAccepted program) (place : ℕ → �
           (mid_at program a keeps q (with_reg l2 s (bit_or v w)) y z
           (own_set program a keeps q l2 s (bit_or v w) (hidden_s x reach.base scratch) m2)))))
 
-      head_does : (at : ℕ) (l : ProcessorState) (n : NodeMemory) → at % 4 ≡ 0
-          → AtHead program a q l
+      head_does : (at : ℕ) (l : ProcessorState) (n : NodeMemory) → at % 4 ≡ 0 → AtHead program a q l
           → Does program kind a 0 at (head_then x reach (length fast) rest) 0 q l n
       head_does at l n al head =
           let count = head_length x reach (length fast) in

@@ -6,14 +6,7 @@ use Rattle.std.proofs.lemmas.Bool.Decides.{eqb_tells, nat_tests}
 use Rattle.std.proofs.lemmas.Int.{ints}
 use Rattle.std.proofs.lemmas.Nat.{and_le_l, and_le_r}
 use Rattle.std.proofs.lemmas.Nat.Bits.{and_pow, bit_at_or}
-use Rattle.rv32_decode.specs.Widths.{size_of}
-use Rattle.rv32_decode.specs.declared.Width.{Width}
-use Rattle.rv32_program.specs.declared.Class.{Class}
-use Rattle.rv32_program.specs.declared.Class.TheVariants.{Shared}
-use Rattle.rv32_program.specs.Program.{Program, is_mapped, is_writable, line_of}
-use Rattle.rv32_program.specs.Targets.{offset_address}
-use Rattle.templates.specs.declared.reaches.Reach.{Reach}
-use Rattle.dsm_protocol.specs.node_model.Node.{NodeMemory, is_readable_state, is_writable_state, meets_need, refuses_need, need_of_run}
+use Rattle.rewriting_law.proofs.Names.{size_of, Width, Class, Shared, Program, is_mapped, is_writable, line_of, offset_address, Reach, NodeMemory, is_readable_state, is_writable_state, meets_need, refuses_need, need_of_run}
 use Rattle.rewriting_law.proofs.templates.States.{StateFits, Later, grants, ReadLook, Gone, Readable, Unreadable, read_look, WriteLook, Fixed, Writable, Unwritable, write_look}
 use Rattle.rewriting_law.proofs.templates.RegisterLemmas.{equal}
 use Rattle.rewriting_law.proofs.batches.RunStretches.{Within}

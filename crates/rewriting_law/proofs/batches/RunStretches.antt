@@ -5,26 +5,9 @@ use Rattle.std.specs.List.{list_all, list_any, cons_option}
 use Rattle.std.specs.Option.{option_map_or}
 use Rattle.std.proofs.lemmas.Bool.Decides.{eqb_tells, nat_tests}
 use Rattle.std.proofs.lemmas.Int.{ints}
-use Rattle.rv32_decode.specs.Fields.{unsigned}
-use Rattle.rv32_decode.specs.Registers.{sources, destination}
-use Rattle.rv32_decode.specs.Widths.{size_of, width_of}
-use Rattle.rv32_decode.specs.declared.LoadKind.{LoadKind}
-use Rattle.rv32_decode.specs.declared.Width.{Width}
-use Rattle.rv32_decode.specs.declared.Width.TheVariants.{Byte, Half, Word}
-use Rattle.rv32_decode.specs.declared.Instr.{Instr}
-use Rattle.rv32_decode.specs.declared.Instr.TheVariants.{Lui, Auipc, Jal, Jalr, Branch, Load, Store, OpImm, ShiftImm, Op, Fence, Ecall, Ebreak, Lr, Sc, Amo, Illegal}
-use Rattle.rv32_ops.specs.Operations.{alu}
-use Rattle.block_layout.specs.Layout.{Shape, block_of}
-use Rattle.rv32_program.specs.Program.{Program, IsAccepted, line_of}
-use Rattle.rv32_program.specs.Targets.{offset_address}
-use Rattle.rv32_program.specs.Liveness.{Uses, Next}
-use Rattle.rv32_step.specs.Registers.{reg}
-use Rattle.rv32_step.specs.Demands.{demand_of, operation_of, shift_of}
-use Rattle.rv32_step.specs.declared.Demand.TheVariants.{Sets}
-use Rattle.rv32_step.specs.Breaks.{is_in_block, is_plain, leaves, stores_by, touches, accesses_by, StandFrom, RunsToStore}
-use Rattle.rv32_step.specs.OneMemory.{Processor}
-use Rattle.templates.specs.declared.reaches.Reach.{Reach}
-use Rattle.templates.specs.Runs.{Span, span_of, is_store, lesser, greater, least, greatest, reach_by, reach_of, reach_at, code_from, may_stand, has_access, IsRun}
+use Rattle.rewriting_law.proofs.Names.{unsigned, sources, destination, size_of, width_of, LoadKind, Width, Byte, Instr, Lui, Load, Store, OpImm, ShiftImm, Op, alu, Shape, block_of, Program, IsAccepted, line_of, offset_address, Uses, reg, demand_of, operation_of, shift_of, Sets, is_in_block, is_plain, leaves, stores_by, touches, accesses_by, StandFrom, RunsToStore, Processor, Reach, Span, span_of, is_store, lesser, greater, least, greatest, reach_by, reach_of, reach_at, code_from, may_stand, has_access}
+use Rattle.rv32_program.specs.Liveness.{Next}
+use Rattle.templates.specs.Runs.{IsRun}
 use Rattle.rewriting_law.proofs.templates.RegisterLemmas.{apart, equal}
 use Rattle.rewriting_law.proofs.templates.Does.{StandsToStore, may_turn}
 
@@ -73,8 +56,7 @@ pub record Computes (i : Instr) (rd : ℕ) : Type 0 where
 
 -- an access of this width at an offset lies within the reach
 abbrev pub Within : Reach → ℤ → Width → Type 0
-Within reach imm w =
-    (reach.low ≤ℤ imm) × ((imm +ℤ pos (size_of w - 1)) ≤ℤ reach.high)
+Within reach imm w = (reach.low ≤ℤ imm) × ((imm +ℤ pos (size_of w - 1)) ≤ℤ reach.high)
 
 -- a word of a run: it sets a register other than the base, or accesses memory by the base
 pub data RunWord (reach : Reach) : Instr → Type 0 where
@@ -139,8 +121,7 @@ any_of : (F P : Instr → Type 0) (test : Instr → Bool)
     → ((i : Instr) → F i → P i → test i ≡ true) → (is : List Instr) → Each F is → Has P is
     → list_any test is ≡ true
 any_of F P test tells [] fits h = absurd h
-any_of F P test tells (i ∷ is) fits (inl p) =
-    or_left (test i) (list_any test is) (tells i fits.0 p)
+any_of F P test tells (i ∷ is) fits (inl p) = or_left (test i) (list_any test is) (tells i fits.0 p)
 any_of F P test tells (i ∷ is) fits (inr h) =
     or_right (test i) (list_any test is) (any_of F P test tells is fits.1 h)
 
@@ -230,8 +211,7 @@ bounded (i ∷ is) low high x y below above =
   where
     go : ((lower upper : ℤ) → x ≤ℤ least lower (spans is) → greatest upper (spans is) ≤ℤ y
         → Each (λ j. Bounded x y (span_of j)) is) → (o : Option Span) → span_of i ≡ o
-        → x ≤ℤ least low (cons_option o (spans is))
-        → greatest high (cons_option o (spans is)) ≤ℤ y
+        → x ≤ℤ least low (cons_option o (spans is)) → greatest high (cons_option o (spans is)) ≤ℤ y
         → Each (λ j. Bounded x y (span_of j)) (i ∷ is)
     go later None e below above = (subst (Bounded x y) (sym e) tt, later low high below above)
     go later (Some s) e below above =
@@ -259,10 +239,7 @@ least_met (i ∷ is) low v e = go (λ x. least_met is x v) (span_of i) refl e
     go : ((x : ℤ) → least x (spans is) ≡ v → (x ≡ v) ⊎ Has (StartsAt v) is) → (o : Option Span)
         → span_of i ≡ o → least low (cons_option o (spans is)) ≡ v
         → (low ≡ v) ⊎ Has (StartsAt v) (i ∷ is)
-    go further None x f = elim (further low f) [
-      | inl same ↦ inl same
-      | inr later ↦ inr (inr later)
-    ]
+    go further None x f = elim (further low f) [ inl same ↦ inl same | inr later ↦ inr (inr later) ]
     go further (Some s) x f = elim (further (lesser low s.low) f) [
       | inl same ↦ pick s x (int_le low s.low) same
       | inr later ↦ inr (inr later)
@@ -362,19 +339,8 @@ module _ (reach : Reach) where
     stores_nothing = refl;
   }) h
   run_word (Load k rd rs1 imm) h within stores = load_word k rd rs1 imm h within
-  run_word (Store w rs1 rs2 imm) h within stores =
-      store_word w rs1 rs2 imm h (stores refl) within
-  run_word (Auipc rd upper) h within stores = let bad : false ≡ true = h in cc
-  run_word (Jal rd offset) h within stores = let bad : false ≡ true = h in cc
-  run_word (Jalr rd rs1 imm) h within stores = let bad : false ≡ true = h in cc
-  run_word (Branch c rs1 rs2 offset) h within stores = let bad : false ≡ true = h in cc
-  run_word (Fence rd rs1 bits) h within stores = let bad : false ≡ true = h in cc
-  run_word Ecall h within stores = let bad : false ≡ true = h in cc
-  run_word Ebreak h within stores = let bad : false ≡ true = h in cc
-  run_word (Lr rd rs1 aq rl) h within stores = let bad : false ≡ true = h in cc
-  run_word (Sc rd rs1 rs2 aq rl) h within stores = let bad : false ≡ true = h in cc
-  run_word (Amo o rd rs1 rs2 aq rl) h within stores = let bad : false ≡ true = h in cc
-  run_word (Illegal word) h within stores = let bad : false ≡ true = h in cc
+  run_word (Store w rs1 rs2 imm) h within stores = store_word w rs1 rs2 imm h (stores refl) within
+  run_word other h within stores = let bad : false ≡ true = h in cc
 
   run_words_of : (is : List Instr) → list_all (may_stand reach.base) is ≡ true
       → Each (λ i. Bounded reach.low reach.high (span_of i)) is
@@ -391,13 +357,11 @@ module _ (reach : Reach) where
   base_of_word : {i : Instr} → RunWord reach i → is_some (span_of i) ≡ true → Uses i reach.base
   base_of_word (Sets_register i rd computes other) h =
       let bad : false ≡ true = sym (ap is_some computes.accesses_nothing) ∙ h in cc
-  base_of_word (Loads_by k rd imm other within) h = inr (0, lit< tt, refl)
-  base_of_word (Stores_by w rs2 imm stores within) h = inr (0, lit< tt, refl)
+  base_of_word x h = inr (0, lit< tt, refl)
 
 module _ (code : ℕ → Option Instr) (a count : ℕ) (run : IsRun code a count) where
   stretch_by : (i : Instr) (is : List Instr) → code_from code a count ≡ i ∷ is → (o : Option Span)
-      → span_of i ≡ o → is_some (span_of i) ≡ true
-      → IsStretch code a (reach_of (i ∷ is)) (i ∷ is)
+      → span_of i ≡ o → is_some (span_of i) ≡ true → IsStretch code a (reach_of (i ∷ is)) (i ∷ is)
   stretch_by i is e None s access = let bad : false ≡ true = sym (ap is_some s) ∙ access in cc
   stretch_by i is e (Some x) s access =
       let stores = list_any is_store (i ∷ is) in
@@ -454,10 +418,7 @@ last_line value n s small true e =
     let less : s < suc n = grind (arith, nat_tests) in
     let x = (value + (2 ^ 32 - 1 - (suc n - suc s))) % 2 ^ 32 in
     let y = (value + (2 ^ 32 - 1 - n)) % 2 ^ 32 in
-    elim (eqb_tells (x / 64) (y / 64)) [
-      | inl f ↦ inl f.1
-      | inr f ↦ inr (omega (arith, f.1))
-    ]
+    elim (eqb_tells (x / 64) (y / 64)) [ inl f ↦ inl f.1 | inr f ↦ inr (omega (arith, f.1)) ]
 last_line value n s small false e =
     let more : suc n ≤ s = grind (arith, nat_tests) in
     inr (omega arith)
@@ -471,8 +432,7 @@ last_byte value (negsuc n) s small = last_line value n s small (ltb s (suc n)) r
 
 size_small : (w : Width) → size_of w - 1 ≤ 3
 size_small Byte = omega arith
-size_small Half = omega arith
-size_small Word = omega arith
+size_small other = omega arith
 
 module _ (layout : Shape) (b : ℕ) where
   same_block : (x y : ℕ) → line_of x ≡ line_of y → is_in_block layout b x ≡ true
@@ -485,8 +445,7 @@ module _ (layout : Shape) (b : ℕ) where
       → touches layout b (offset_address value imm) (size_of w) ≡ true
   touches_first value imm low w e h =
       let x = offset_address value imm in
-      or_left (is_in_block layout b x)
-      (is_in_block layout b ((x + (size_of w - 1)) % 2 ^ 32))
+      or_left (is_in_block layout b x) (is_in_block layout b ((x + (size_of w - 1)) % 2 ^ 32))
       (subst (λ z. is_in_block layout b (offset_address value z) ≡ true) (sym e) h)
 
   touches_last : (value : ℕ) (imm high : ℤ) (w : Width) → imm +ℤ pos (size_of w - 1) ≡ high
@@ -507,30 +466,26 @@ module _ (layout : Shape) (b : ℕ) where
 
   module _ (reach : Reach) (value : ℕ) where
     accesses_low : is_in_block layout b (offset_address value reach.low) ≡ true → (i : Instr)
-        → RunWord reach i → StartsAt reach.low i
-        → accesses_by layout b reach.base value i ≡ true
+        → RunWord reach i → StartsAt reach.low i → accesses_by layout b reach.base value i ≡ true
     accesses_low h i (Sets_register j rd computes other) starts =
         absurd (subst (Spans (λ (t : Span). t.low ≡ reach.low)) computes.accesses_nothing starts)
     accesses_low h i (Loads_by k rd imm other within) starts =
         and_both (eqb reach.base reach.base)
         (touches layout b (offset_address value imm) (size_of (width_of k)))
-        (equal reach.base reach.base refl)
-        (touches_first value imm reach.low (width_of k) starts h)
+        (equal reach.base reach.base refl) (touches_first value imm reach.low (width_of k) starts h)
     accesses_low h i (Stores_by w rs2 imm stores within) starts =
         and_both (eqb reach.base reach.base)
         (touches layout b (offset_address value imm) (size_of w))
         (equal reach.base reach.base refl) (touches_first value imm reach.low w starts h)
 
     accesses_high : is_in_block layout b (offset_address value reach.high) ≡ true → (i : Instr)
-        → RunWord reach i → EndsAt reach.high i
-        → accesses_by layout b reach.base value i ≡ true
+        → RunWord reach i → EndsAt reach.high i → accesses_by layout b reach.base value i ≡ true
     accesses_high h i (Sets_register j rd computes other) ends =
         absurd (subst (Spans (λ (t : Span). t.high ≡ reach.high)) computes.accesses_nothing ends)
     accesses_high h i (Loads_by k rd imm other within) ends =
         and_both (eqb reach.base reach.base)
         (touches layout b (offset_address value imm) (size_of (width_of k)))
-        (equal reach.base reach.base refl)
-        (touches_last value imm reach.high (width_of k) ends h)
+        (equal reach.base reach.base refl) (touches_last value imm reach.high (width_of k) ends h)
     accesses_high h i (Stores_by w rs2 imm stores within) ends =
         and_both (eqb reach.base reach.base)
         (touches layout b (offset_address value imm) (size_of w))

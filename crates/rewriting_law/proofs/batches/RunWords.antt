@@ -3,21 +3,7 @@ use Rattle.std.proofs.Common.{◌≡◌, ℕ, suc, ◌+◌, ◌*◌, ◌<◌, Bo
 use Rattle.std.specs.Prelude.{ℤ, pos, ◌+ℤ◌, ◌≤ℤ◌}
 use Rattle.std.specs.Option.{option_map_or}
 use Rattle.std.proofs.lemmas.Option.{same_Some}
-use Rattle.rv32_decode.specs.Widths.{width_of, is_aligned}
-use Rattle.rv32_decode.specs.declared.Width.{Width}
-use Rattle.rv32_decode.specs.declared.Instr.{Instr}
-use Rattle.rv32_decode.specs.declared.Instr.TheVariants.{Load}
-use Rattle.rv32_program.specs.Program.{Program, IsAccepted, line_of}
-use Rattle.rv32_program.specs.Targets.{offset_address}
-use Rattle.rv32_program.specs.Liveness.{uses}
-use Rattle.rv32_step.specs.declared.Demand.TheVariants.{Sets}
-use Rattle.rv32_step.specs.Registers.{reg}
-use Rattle.rv32_step.specs.OneMemory.{Processor, Becomes, request, request_for, set_register, after_store, next_pc}
-use Rattle.runtime_words.specs.declared.RtWord.TheVariants.{Native}
-use Rattle.templates.specs.declared.commits.CommitKind.TheVariants.{Always}
-use Rattle.templates.specs.declared.reaches.Reach.{Reach}
-use Rattle.templates.specs.Sequences.{SequenceItem, committing, run_items}
-use Rattle.dsm_protocol.specs.node_model.Node.{ProcessorState, NodeMemory, WordOutcome, Next, only_moves, lane_stored, local_stored, native, execute}
+use Rattle.rewriting_law.proofs.Names.{width_of, is_aligned, Width, Instr, Load, Program, IsAccepted, line_of, offset_address, uses, Sets, reg, Processor, Becomes, request, request_for, set_register, after_store, next_pc, Native, Always, Reach, SequenceItem, committing, run_items, ProcessorState, NodeMemory, WordOutcome, Next, only_moves, lane_stored, local_stored, native, execute}
 use Rattle.rewriting_law.proofs.templates.RegisterLemmas.{put_other}
 use Rattle.rewriting_law.proofs.templates.Does.{SequenceKind, OfRun, place_of, lane_at, may_turn, is_where, Commits, Leads, Does, does_later}
 use Rattle.rewriting_law.proofs.templates.Mids.{Mid, shown, with_reg, mid_at}
@@ -76,8 +62,7 @@ module _ (program : Program) (accepted : IsAccepted program) where
         imm))
     serves n serve q based imm w within =
         subst (λ z. Serves program reach.stores n.state (line_of (offset_address z imm)))
-        (sym based)
-        (access_serves program reach value n.state imm w near
+        (sym based) (access_serves program reach value n.state imm w near
         (low_if_mapped program accepted (offset_address value reach.low) serve.low.mapped) within
         serve)
 

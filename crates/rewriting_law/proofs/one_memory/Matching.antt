@@ -3,27 +3,14 @@
 use Rattle.std.proofs.Common.{◌≡◌, ℕ, ◌+◌, ◌*◌, ◌<◌, ◌≤◌, ◌⊎◌, cond, eqb, Bool, true, false, List, [], ◌∷◌, Option, Some, None, refl, sym, ap, ◌∙◌, subst, inl, inr, arith}
 use Rattle.std.specs.Prelude.{if◌then◌else◌, ◌==◌, ◌||◌, option_and_then}
 use Rattle.std.specs.Option.{option_to_list}
-use Rattle.block_layout.specs.Layout.{Shape}
-use Rattle.rv32_program.specs.declared.Exit.{Exit}
-use Rattle.rv32_program.specs.declared.End.{End}
-use Rattle.rv32_program.specs.declared.End.TheVariants.{Exited, Stopped}
-use Rattle.rv32_step.specs.Breaks.{stands_at_store, RunsToStore}
-use Rattle.rv32_step.specs.OneMemory.{Processor, State, Pick, opening, run}
-use Rattle.templates.specs.declared.commits.CommitKind.{CommitKind}
-use Rattle.templates.specs.declared.plans.PlanEntry.{PlanEntry}
-use Rattle.templates.specs.Commits.{commit_at}
-use Rattle.dsm_protocol.specs.jump_map.Maps.{old_of, fetch}
-use Rattle.home_directory.specs.dsm_messages.declared.messages.Need.{Need}
-use Rattle.home_directory.specs.dsm_messages.declared.messages.Need.TheVariants.{Write}
-use Rattle.dsm_protocol.specs.node_model.Node.{Work, ProcessorState, NodeMemory, Want, Move, Next, Again, To, Enters, Waits, Leaves, Resume, WordOutcome, lane_after, lane_resumed, next_outcome, first_lane, takes_messages}
-use Rattle.dsm_protocol.specs.node_model.Turns.{wants_of, each_block_once}
-use Rattle.rewriting_law.specs.CoreRun.{Order, break_by, is_exit, commits_by}
-use Rattle.rewriting_law.specs.Licence.{Licensed}
+use Rattle.rewriting_law.proofs.Names.{Shape, Exit, End, Exited, Stopped, stands_at_store, RunsToStore, Processor, State, Pick, opening, run, CommitKind, PlanEntry, commit_at, old_of, fetch, Need, Write, Work, ProcessorState, NodeMemory, Want, Move, Waits, Leaves, Resume, WordOutcome, lane_after, lane_resumed, next_outcome, first_lane, takes_messages, wants_of, each_block_once, Order, break_by, is_exit, commits_by, Licensed}
 use Rattle.rewriting_law.proofs.one_memory.Originals.{original_with}
 use Rattle.rewriting_law.proofs.templates.States.{Suits}
 use Rattle.rewriting_law.proofs.words.CodeSide.{Pace, first_pace, pace_after, pace_at, AllWanted, CodeSide}
-use Rattle.rewriting_law.proofs.one_memory.Sharing.{Sharing, Shares, Onward, with_local, is_same, local_here, shares_like, word_advances}
-use Rattle.rewriting_law.proofs.one_memory.Advances.{Advanced, WordAdvanced, picked, values_of_word, word_advanced}
+use Rattle.rewriting_law.proofs.one_memory.Sharing.{Sharing, with_local, is_same, local_here}
+use Rattle.rewriting_law.proofs.one_memory.Advances.{Advanced}
+use Rattle.rewriting_law.proofs.one_memory.SharedWords.{picked, values_of_word}
+use Rattle.rewriting_law.proofs.one_memory.OneEach.{Shares, shares_like, Onward, WordAdvanced, word_advanced, shares_behind}
 use Rattle.rewriting_law.proofs.one_memory.Messages.{AreLaidOut, Taken, message_shares}
 use Rattle.rewriting_law.proofs.one_memory.Pending.{wanted_in, pending, StandsWaiting, waits_standing, waiting_stores, waits_on, goes_on, pending_waits}
 use Rattle.rewriting_law.proofs.protocol_side.ProtocolSide.{Handled, Protocol, ProtocolSide, TakeLeaves, sharing_by, took_by}
@@ -97,8 +84,7 @@ module _ (layout : Shape) (work : Work) (plan : List PlanEntry) (code : CodeSide
 
   -- a processor that has executed so many words, with nothing pending
   abbrev pub goes_or_stops : ℕ → Activity
-  goes_or_stops executed =
-      if executed == work.budget then HasEnded (Stopped work.budget) else Runs
+  goes_or_stops executed = if executed == work.budget then HasEnded (Stopped work.budget) else Runs
 
   stands_or_stops : (p : Pace) (executed : ℕ) (q : Processor) (l : ProcessorState) (n : NodeMemory)
       → q.exit ≡ None → code.Stands p q l n → StandsIn p (goes_or_stops executed) q l n
@@ -216,8 +202,7 @@ module _ (layout : Shape) (work : Work) (plan : List PlanEntry) (code : CodeSide
       Then = code.Stands pace
 
       abbrev behind_word : State
-      behind_word = run (original_with layout work) s (picked layout work plan Then
-          (sharing_at rest) locals s m.shares i below here.0 r commits)
+      behind_word = run (original_with layout work) s (picked i commits)
 
       abbrev asked : Handled protocol.Rest
       asked = want_all layout work plan protocol (with_local locals i r.local) rest i
@@ -226,13 +211,14 @@ module _ (layout : Shape) (work : Work) (plan : List PlanEntry) (code : CodeSide
       word : WordAdvanced layout work plan Then (sharing_at rest) locals s m.shares i below
           here.0 r commits
       word = word_advanced layout work plan Then (sharing_at rest) locals s m.shares i below
-          here.0 r commits
-          (word_advances layout work plan Then (sharing_at rest) locals s m.shares i below
-          here.0 r kind (code.word_follows (paces i) q l n suits here.0 here.1))
+          here.0 r kind (code.word_follows (paces i) q l n suits here.0 here.1)
+
+      shares1 : Shares layout work (sharing_at rest) (with_local locals i r.local) behind_word
+      shares1 = shares_behind layout work plan Then (sharing_at rest) locals s m.shares i below
+          here.0 r commits word
 
       abbrev OnwardBy : Processor → Move → Type 0
-      OnwardBy p mv = Onward layout work plan Then (sharing_at rest) locals s m.shares i
-          below
+      OnwardBy p mv = Onward layout work plan Then (sharing_at rest) locals s m.shares i below
           here.0 r p mv
 
       none : (c : ℕ) → protocol.wait rest i c ≡ None
@@ -244,7 +230,7 @@ module _ (layout : Shape) (work : Work) (plan : List PlanEntry) (code : CodeSide
           (want_all layout work plan protocol (with_local locals i r.local) rest i [])
       nothing_sought p =
           all_asked layout work plan protocol side laid (with_local locals i r.local) rest
-          behind_word i below p word.behind.shared none [] tt (omega arith)
+          behind_word i below p shares1 none [] tt (omega arith)
 
       goes_there : (p : Processor) (mv : Move) → r.move ≡ mv
           → (p.exit ≡ None) × Then p (lane_after work.image r.lane r.move) r.local
@@ -252,10 +238,8 @@ module _ (layout : Shape) (work : Work) (plan : List PlanEntry) (code : CodeSide
           (with_local locals i r.local i)
       goes_there p mv is h =
           stands_or_stops pace executed p (lane_after work.image r.lane mv)
-          (with_local locals i r.local i) h.0
-          (subst (λ mv. Then p (lane_after work.image r.lane mv)
-          (with_local locals i r.local i)) is
-          (subst (Then p (lane_after work.image r.lane r.move))
+          (with_local locals i r.local i) h.0 (subst (λ mv. Then p (lane_after work.image r.lane mv)
+          (with_local locals i r.local i)) is (subst (Then p (lane_after work.image r.lane r.move))
           (sym (local_here locals i r.local)) h.1))
 
       -- the wants of a move
@@ -268,15 +252,10 @@ module _ (layout : Shape) (work : Work) (plan : List PlanEntry) (code : CodeSide
           let same : locals i ≡ with_local locals i r.local i =
           sym h.1.local ∙ sym (local_here locals i r.local) in
           all_asked layout work plan protocol side laid (with_local locals i r.local) rest
-          behind_word i below p word.behind.shared none (each_block_once layout (want ∷ more))
+          behind_word i below p shares1 none (each_block_once layout (want ∷ more))
           (subst (λ (x : NodeMemory). AllWanted layout work plan p x
-          (each_block_once layout (want ∷ more))) same h.1.wanted)
-          h.1.few
-      sought p (Leaves e) h = nothing_sought p
-      sought p Next h = nothing_sought p
-      sought p Again h = nothing_sought p
-      sought p (To target) h = nothing_sought p
-      sought p (Enters target) h = nothing_sought p
+          (each_block_once layout (want ∷ more))) same h.1.wanted) h.1.few
+      sought p other h = nothing_sought p
 
       -- how the processor stands then
       stands_after : (p : Processor) (mv : Move) → r.move ≡ mv → OnwardBy p mv
@@ -287,28 +266,18 @@ module _ (layout : Shape) (work : Work) (plan : List PlanEntry) (code : CodeSide
       stands_after p (Waits resume want more) is h =
           waits_standing layout work plan laid Then p n r resume
           (each_block_once layout (want ∷ more)) h.0 h.1
-      stands_after p Next is h = goes_there p Next is h
-      stands_after p Again is h = goes_there p Again is h
-      stands_after p (To target) is h = goes_there p (To target) is h
-      stands_after p (Enters target) is h = goes_there p (Enters target) is h
+      stands_after p other is h = goes_there p other is h
 
-      waits_after : (mv : Move) (c : ℕ)
-          → wanted_in layout c (each_block_once layout (wants_of mv))
+      waits_after : (mv : Move) (c : ℕ) → wanted_in layout c (each_block_once layout (wants_of mv))
           ≡ wait_in (doing_after executed mv) c
       waits_after (Leaves e) c = refl
       waits_after (Waits resume want more) c = refl
-      waits_after Next c = sym (no_wait executed c)
-      waits_after Again c = sym (no_wait executed c)
-      waits_after (To target) c = sym (no_wait executed c)
-      waits_after (Enters target) c = sym (no_wait executed c)
+      waits_after other c = sym (no_wait executed c)
 
       -- what an executed word leaves
       pub record Executed : Type 0 where
-        pub advanced : Advanced (original_with layout work) s
-            (picked layout work plan Then (sharing_at rest) locals s m.shares i below here.0
-            r commits)
-            (values_of_word layout work plan Then (sharing_at rest) locals s m.shares i below
-            here.0 r commits) (option_to_list r.printed)
+        pub advanced : Advanced (original_with layout work) s (picked i commits)
+            (values_of_word i r commits) (option_to_list r.printed)
         pub behind : Matches (with_at paces i pace) (with_at lanes i (lane_after work.image r.lane r.move))
             (with_at doing i (doing_after executed r.move)) (with_local locals i asked.local)
             asked.rest behind_word
@@ -327,10 +296,7 @@ module _ (layout : Shape) (work : Work) (plan : List PlanEntry) (code : CodeSide
                 (with_local (with_local locals i r.local) i asked.local)
                 (with_local locals i asked.local) behind_word
                 (λ j. (elim (eqb j i) as (λ u. cond u asked.local (cond u r.local (locals j))
-                ≡ cond u asked.local (locals j)) [
-                  | true ↦ refl
-                  | false ↦ refl
-                ])) a.shares)
+                ≡ cond u asked.local (locals j)) [ true ↦ refl | false ↦ refl ])) a.shares)
                 (stands_after p r.move refl word.behind.onward) word.behind.others
                 (λ c. a.own c ∙ waits_after r.move c) a.others;
           }
@@ -359,8 +325,7 @@ module _ (layout : Shape) (work : Work) (plan : List PlanEntry) (code : CodeSide
       waiting k b low e = go (doing k) (m.stands k low) (sym (m.waits k b low) ∙ e)
         where
           go : (a : Activity) → StandsIn (paces k) a (s.processors k) (lanes k) (locals k)
-              → wait_in a b ≡ Some Write
-              → ((s.processors k).exit ≡ None)
+              → wait_in a b ≡ Some Write → ((s.processors k).exit ≡ None)
               × ((stands_at_store work.program layout b (s.processors k).registers
               (s.processors k).pc ≡ true)
               ⊎ RunsToStore work.program layout b (s.processors k).registers (s.processors k).pc)
@@ -374,10 +339,7 @@ module _ (layout : Shape) (work : Work) (plan : List PlanEntry) (code : CodeSide
 
       -- a wait of a node that waits for nothing
       ended : (b : ℕ) → protocol.wait rest i b ≡ None → wait_then b ≡ None
-      ended b e = elim (left.own b) [
-        | inl f ↦ f ∙ e
-        | inr f ↦ f
-      ]
+      ended b e = elim (left.own b) [ inl f ↦ f ∙ e | inr f ↦ f ]
 
       abbrev picks : List Pick
       picks = break_by layout i order n.reservation
@@ -426,8 +388,7 @@ module _ (layout : Shape) (work : Work) (plan : List PlanEntry) (code : CodeSide
       waits_then (HasEnded e) waits b = ended b (waits b)
       waits_then (Awaits resume want more) waits b =
           pending_waits layout work plan laid (code.Stands (paces i)) (protocol.wait rest i) wait_then
-          (want ∷ more) waits left.own b
-          ∙ go (pending layout wait_then (want ∷ more))
+          (want ∷ more) waits left.own b ∙ go (pending layout wait_then (want ∷ more))
         where
           go : (ws : List Want) → wanted_in layout b ws ≡ wait_in (doing_still executed resume ws) b
           go [] = sym (no_wait executed b)

@@ -2,19 +2,12 @@
 -- reservation.
 use Rattle.std.proofs.Common.{◌≡◌, ℕ, ◌<◌, ◌⊎◌, cond, eqb, Bool, true, false, List, [], ◌∷◌, Option, Some, None, refl, sym, ap, ◌∙◌, inl, inr, append-nil}
 use Rattle.std.specs.Option.{option_map_or}
-use Rattle.llsc.specs.Reservation.{cleared}
-use Rattle.block_layout.specs.Layout.{Shape, block_of, has_line}
-use Rattle.rv32_program.specs.declared.Class.TheVariants.{Shared}
-use Rattle.rv32_program.specs.Program.{class_at, line_of}
-use Rattle.rv32_step.specs.Breaks.{stands_at_store, RunsToStore}
-use Rattle.rv32_step.specs.Reservations.{with_reservation, after_other}
-use Rattle.rv32_step.specs.OneMemory.{State, Pick, Break, run}
-use Rattle.dsm_protocol.specs.node_model.Node.{Work, NodeMemory, is_readable_state, is_writable_state}
-use Rattle.rewriting_law.specs.CoreRun.{Order, break_by}
+use Rattle.rewriting_law.proofs.Names.{cleared, Shape, block_of, has_line, Shared, class_at, line_of, stands_at_store, RunsToStore, with_reservation, after_other, State, Pick, Break, run, Work, NodeMemory, is_readable_state, is_writable_state, Order, break_by}
 use Rattle.rewriting_law.proofs.one_memory.Originals.{original_with}
 use Rattle.rewriting_law.proofs.templates.RegisterLemmas.{equal}
 use Rattle.rewriting_law.proofs.one_memory.Advances.{Advanced}
-use Rattle.rewriting_law.proofs.one_memory.Sharing.{Sharing, Shares, with_local, shares_with}
+use Rattle.rewriting_law.proofs.one_memory.Sharing.{Sharing, with_local}
+use Rattle.rewriting_law.proofs.one_memory.OneEach.{Shares, shares_with}
 
 -- the reservation after a message with this order
 abbrev pub cleared_by : Shape → Option Order → Option ℕ → Option ℕ
@@ -42,8 +35,7 @@ module _ (layout : Shape) (work : Work) where
   -- so a store ends no reservation of a line that another may read
   pub stays_apart : AreLaidOut layout work → (locals : ℕ → NodeMemory) → IsAlone locals → (i j : ℕ)
       → i < work.layout.nodes → j < work.layout.nodes → eqb j i ≡ false → (x y : ℕ)
-      → is_writable_state ((locals i).state (line_of x)) ≡ true
-      → (class_at work.program y ≡ Shared
+      → is_writable_state ((locals i).state (line_of x)) ≡ true → (class_at work.program y ≡ Shared
       → is_readable_state ((locals j).state (line_of y)) ≡ true)
       → after_other layout x (Some y) ≡ Some y
   stays_apart laid locals alone i j low_i low_j other x y writable readable =
@@ -112,8 +104,7 @@ module _ (layout : Shape) (work : Work) where
         -- the reservation is kept: its line isn't in the block
         kept : n.reservation ≡ (locals i).reservation
             → ((a : ℕ) (x : Order) → (locals i).reservation ≡ Some a → order ≡ Some x
-            → has_line layout x.block (line_of a) ≡ true → ⊥)
-            → Taken []
+            → has_line layout x.block (line_of a) ≡ true → ⊥) → Taken []
         kept same apart = record {
           advanced = record {
             allowed = tt;
@@ -121,13 +112,11 @@ module _ (layout : Shape) (work : Work) where
             output = sym (append-nil s.output);
           };
           behind = shares_with layout work sharing sharing' locals s s shares i n took.held
-              (same ∙ shares.reservations i below)
-              (λ a h c. elim (took.reads (line_of a) c
+              (same ∙ shares.reservations i below) (λ a h c. elim (took.reads (line_of a) c
               (shares.readable i below a (sym same ∙ h) c)) [
                 | inl e ↦ e
                 | inr e ↦ absurd (apart a e.0 (sym same ∙ h) e.1 e.2)
-              ])
-              (λ j low e. refl);
+              ]) (λ j low e. refl);
           processors = refl;
         }
 
@@ -155,8 +144,7 @@ module _ (layout : Shape) (work : Work) where
           };
           behind = shares_with layout work sharing sharing' locals s
               (record s { reservations = with_reservation s.reservations i None }) shares i n
-              took.held
-              (gone ∙ sym (ap (λ u. cond u None (s.reservations i)) (equal i i refl)))
+              took.held (gone ∙ sym (ap (λ u. cond u None (s.reservations i)) (equal i i refl)))
               (λ b f c. let bad : None ≡ Some b = sym gone ∙ f in cc)
               (λ j low f. ap (λ u. cond u None (s.reservations j)) f);
           processors = refl;
@@ -170,8 +158,7 @@ module _ (layout : Shape) (work : Work) where
                 → n.reservation ≡ cleared layout x.block (Some a) → (t : Bool)
                 → has_line layout x.block (line_of a) ≡ t
                 → Taken (cond t (Break i x.requester ∷ []) [])
-            within x a e h r true f =
-                breaks a x h e f (r ∙ ap (λ t. cond t None (Some a)) f)
+            within x a e h r true f = breaks a x h e f (r ∙ ap (λ t. cond t None (Some a)) f)
             within x a e h r false f =
                 kept (r ∙ ap (λ t. cond t None (Some a)) f ∙ sym h) (λ b y g k l.
                 let both : Some x ≡ Some y = sym e ∙ k in
@@ -186,8 +173,7 @@ module _ (layout : Shape) (work : Work) where
             go : (o : Option Order) → order ≡ o → (p : Option ℕ) → (locals i).reservation ≡ p
                 → Taken (break_by layout i o p)
             go None e p f =
-                kept (took.reservation
-                ∙ ap (λ o. cleared_by layout o (locals i).reservation) e)
+                kept (took.reservation ∙ ap (λ o. cleared_by layout o (locals i).reservation) e)
                 (λ a x g k l. let bad : None ≡ Some x = sym e ∙ k in cc)
             go (Some x) e None f =
                 kept (took.reservation ∙ ap (λ o. cleared_by layout o (locals i).reservation) e

@@ -2,15 +2,7 @@
 use Rattle.std.proofs.Common.{◌≡◌, ℕ, ◌⊎◌, cond, eqb, Bool, true, false, List, [], ◌∷◌, Option, Some, None, refl, sym, ap, ◌∙◌, inl, inr}
 use Rattle.std.specs.Prelude.{if◌then◌else◌, is_some}
 use Rattle.std.specs.Option.{option_map_or}
-use Rattle.block_layout.specs.Layout.{Shape, block_of}
-use Rattle.rv32_program.specs.declared.Class.TheVariants.{Shared}
-use Rattle.rv32_program.specs.Program.{class_at, line_of}
-use Rattle.rv32_step.specs.Breaks.{is_in_block, stands_at_store, RunsToStore}
-use Rattle.rv32_step.specs.OneMemory.{Processor}
-use Rattle.templates.specs.declared.plans.PlanEntry.{PlanEntry}
-use Rattle.home_directory.specs.dsm_messages.declared.messages.Need.{Need}
-use Rattle.home_directory.specs.dsm_messages.declared.messages.Need.TheVariants.{Read, Write}
-use Rattle.dsm_protocol.specs.node_model.Node.{Work, ProcessorState, NodeMemory, Want, Resume, WordOutcome, lane_resumed}
+use Rattle.rewriting_law.proofs.Names.{Shape, block_of, Shared, class_at, line_of, is_in_block, stands_at_store, RunsToStore, Processor, PlanEntry, Need, Read, Write, Work, ProcessorState, NodeMemory, Want, Resume, WordOutcome, lane_resumed}
 use Rattle.rewriting_law.proofs.templates.RegisterLemmas.{equal}
 use Rattle.rewriting_law.proofs.templates.States.{Suits, grants}
 use Rattle.rewriting_law.proofs.templates.Does.{Seeks}
@@ -76,8 +68,7 @@ module _ (layout : Shape) (work : Work) (plan : List PlanEntry) (laid : AreLaidO
       go (is_in_block layout b w.at) refl e (λ is. waiting_stores q b ws h.2 is)
     where
       by : (need : Need) → Seeks work.program q need w.at → is_in_block layout b w.at ≡ true
-          → Some need ≡ Some Write
-          → (stands_at_store work.program layout b q.registers q.pc ≡ true)
+          → Some need ≡ Some Write → (stands_at_store work.program layout b q.registers q.pc ≡ true)
           ⊎ RunsToStore work.program layout b q.registers q.pc
       by Write seeks here is = seeks layout b here
       by Read seeks here is = let bad : Read ≡ Write = cc in cc
@@ -96,15 +87,11 @@ module _ (layout : Shape) (work : Work) (plan : List PlanEntry) (laid : AreLaidO
   pending_among : (wait : ℕ → Option Need) (x : Want) (ws : List Want)
       → IsAmong x (pending layout wait ws) → IsAmong x ws
   pending_among wait x [] h = h
-  pending_among wait x (w ∷ ws) h =
-      go (is_pending layout wait w) h (λ g. pending_among wait x ws g)
+  pending_among wait x (w ∷ ws) h = go (is_pending layout wait w) h (λ g. pending_among wait x ws g)
     where
       go : (t : Bool) → IsAmong x (cond t (w ∷ pending layout wait ws) (pending layout wait ws))
           → (IsAmong x (pending layout wait ws) → IsAmong x ws) → (x ≡ w) ⊎ IsAmong x ws
-      go true g later = elim g [
-        | inl e ↦ inl e
-        | inr e ↦ inr (later e)
-      ]
+      go true g later = elim g [ inl e ↦ inl e | inr e ↦ inr (later e) ]
       go false g later = inr (later g)
 
   pending_sought : (wait : ℕ → Option Need) (q : Processor) (ws : List Want) → AllSought q ws
@@ -189,8 +176,7 @@ module _ (layout : Shape) (work : Work) (plan : List PlanEntry) (laid : AreLaidO
           ∙ sym (ap (λ t. cond t (Some w.need) None) f)
 
       by : (d : ℕ) → block_of layout (line_of w.at) ≡ Some d → (here : Bool) → eqb d b ≡ here
-          → is_in_block layout b w.at ≡ here
-          → wanted_in layout b (pending layout wait (w ∷ ws))
+          → is_in_block layout b w.at ≡ here → wanted_in layout b (pending layout wait (w ∷ ws))
           ≡ cond (is_some (wait b)) (wanted_in layout b (w ∷ ws)) None
       by d e true f g =
           let left : is_pending layout wait w ≡ is_some (wait b) =
@@ -208,8 +194,7 @@ module _ (layout : Shape) (work : Work) (plan : List PlanEntry) (laid : AreLaidO
       go : (o : Option ℕ) → block_of layout (line_of w.at) ≡ o
           → wanted_in layout b (pending layout wait (w ∷ ws))
           ≡ cond (is_some (wait b)) (wanted_in layout b (w ∷ ws)) None
-      go (Some d) e =
-          by d e (eqb d b) refl (ap (λ o. option_map_or (λ c. eqb c b) o false) e)
+      go (Some d) e = by d e (eqb d b) refl (ap (λ o. option_map_or (λ c. eqb c b) o false) e)
       go None e =
           let g : is_in_block layout b w.at ≡ false =
           ap (λ o. option_map_or (λ c. eqb c b) o false) e in
@@ -241,6 +226,5 @@ module _ (layout : Shape) (work : Work) (plan : List PlanEntry) (laid : AreLaidO
   pending_waits before wait ws waits stays b =
       elim (stays b) [
         | inl e ↦ itself (wait b) ∙ ap (λ o. cond (is_some (wait b)) o None) (e ∙ waits b)
-        | inr e ↦ e
-            ∙ sym (ap (λ o. cond (is_some o) (wanted_in layout b ws) None) e)
+        | inr e ↦ e ∙ sym (ap (λ o. cond (is_some o) (wanted_in layout b ws) None) e)
       ] ∙ sym (pending_wanted wait b ws)

@@ -2,24 +2,63 @@
 use Rattle.std.proofs.Common.{◌≡◌, ◌≢◌, ℕ, ◌<◌, ◌≤◌, cond, eqb, Bool, true, false, List, [], ◌∷◌, length, Option, Some, None, refl, sym, ap, ◌∙◌, arith}
 use Rattle.std.specs.Prelude.{unwrap_or, ◌&&◌}
 use Rattle.std.specs.Option.{option_map_or}
-use Rattle.block_layout.specs.Layout.{Shape, block_of}
-use Rattle.rv32_program.specs.Program.{line_of}
-use Rattle.rv32_step.specs.Breaks.{is_in_block}
-use Rattle.rv32_step.specs.OneMemory.{Processor, State}
-use Rattle.templates.specs.declared.plans.PlanEntry.{PlanEntry}
-use Rattle.home_directory.specs.dsm_messages.declared.messages.Need.{Need}
-use Rattle.dsm_protocol.specs.node_model.Node.{Work, NodeMemory, Want}
+use Rattle.rewriting_law.proofs.Names.{Shape, block_of, line_of, is_in_block, Processor, State, PlanEntry, Need, Work, NodeMemory, Want}
 use Rattle.rewriting_law.proofs.templates.RegisterLemmas.{apart, equal}
 use Rattle.rewriting_law.proofs.templates.States.{grants}
 use Rattle.rewriting_law.proofs.templates.Does.{IsWanted}
 use Rattle.rewriting_law.proofs.words.CodeSide.{IsAlone, AllWanted}
-use Rattle.rewriting_law.proofs.one_memory.Sharing.{Shares, with_local, is_same, local_here, shares_like}
+use Rattle.rewriting_law.proofs.one_memory.Sharing.{with_local, is_same, local_here}
+use Rattle.rewriting_law.proofs.one_memory.OneEach.{Shares, shares_like}
 use Rattle.rewriting_law.proofs.one_memory.Messages.{AreLaidOut, want_shares}
 use Rattle.rewriting_law.proofs.one_memory.Pending.{wanted_in}
 use Rattle.rewriting_law.proofs.protocol_side.ProtocolSide.{Handled, Protocol, ProtocolSide, sharing_by, wanted_by}
 
-other_way : (c b : ℕ) → eqb c b ≡ false → eqb b c ≡ false
+pub other_way : (c b : ℕ) → eqb c b ≡ false → eqb b c ≡ false
 other_way c b e = apart b c (λ same. let bad : false ≡ true = sym e ∙ equal c b (sym same) in cc)
+
+module _ (layout : Shape) where
+  -- a block that no want is of
+  pub alone_wanted : (w : Want) (b : ℕ) → block_of layout (line_of w.at) ≡ Some b → (ws : List Want)
+      → IsAlone layout w ws → wanted_in layout b ws ≡ None
+  alone_wanted w b lies [] h = refl
+  alone_wanted w b lies (v ∷ vs) h =
+      ap (λ t. cond t (Some v.need) (wanted_in layout b vs))
+      (not_in (block_of layout (line_of v.at)) refl) ∙ alone_wanted w b lies vs h.1
+    where
+      tells : (d : ℕ) → block_of layout (line_of v.at) ≡ Some d → (t : Bool) → eqb d b ≡ t
+          → eqb d b ≡ false
+      tells d e false f = f
+      tells d e true f = absurd (h.0 (lies ∙ ap (λ x. Some x) (sym (is_same d b f)) ∙ sym e))
+
+      not_in : (o : Option ℕ) → block_of layout (line_of v.at) ≡ o
+          → is_in_block layout b v.at ≡ false
+      not_in None e = ap (λ o. option_map_or (λ c. eqb c b) o false) e
+      not_in (Some d) e = ap (λ o. option_map_or (λ c. eqb c b) o false) e
+          ∙ tells d e (eqb d b) refl
+
+  pub not_first : (c : ℕ) (w : Want) (ws : List Want) (t : Bool) → is_in_block layout c w.at ≡ t
+      → cond t (Some w.need) (wanted_in layout c ws) ≡ None
+      → (is_in_block layout c w.at ≡ false) × (wanted_in layout c ws ≡ None)
+  not_first c w ws true e h = let bad : Some w.need ≡ None = h in cc
+  not_first c w ws false e h = (e, h)
+
+  in_block : (b : ℕ) (o : Option ℕ) → option_map_or (λ c. eqb c b) o false ≡ true → o ≡ Some b
+  in_block b None e = let bad : false ≡ true = e in cc
+  in_block b (Some d) e = ap (λ x. Some x) (is_same d b e)
+
+  -- the same wants in the other order
+  pub swapped : (w v : Want) → block_of layout (line_of w.at) ≢ block_of layout (line_of v.at)
+      → (c : ℕ) → wanted_in layout c (v ∷ w ∷ []) ≡ wanted_in layout c (w ∷ v ∷ [])
+  swapped w v apart_ c = go (is_in_block layout c w.at) (is_in_block layout c v.at) refl refl
+    where
+      go : (x y : Bool) → is_in_block layout c w.at ≡ x → is_in_block layout c v.at ≡ y
+          → cond y (Some v.need) (cond x (Some w.need) None)
+          ≡ cond x (Some w.need) (cond y (Some v.need) None)
+      go true true e f = absurd (apart_ (in_block c (block_of layout (line_of w.at)) e
+          ∙ sym (in_block c (block_of layout (line_of v.at)) f)))
+      go true false e f = refl
+      go false true e f = refl
+      go false false e f = refl
 
 module _ (layout : Shape) (work : Work) (plan : List PlanEntry) (protocol : Protocol) where
   -- the block of a want
@@ -46,37 +85,10 @@ module _ (layout : Shape) (work : Work) (plan : List PlanEntry) (protocol : Prot
       pub shares : Shares layout work (sharing_by layout work protocol side laid t.rest)
           (with_local locals i t.local) s
       pub own : (c : ℕ) → protocol.wait t.rest i c ≡ wanted_in layout c ws
-      pub others : (x c : ℕ) → eqb x i ≡ false
-          → protocol.wait t.rest x c ≡ protocol.wait rest x c
+      pub others : (x c : ℕ) → eqb x i ≡ false → protocol.wait t.rest x c ≡ protocol.wait rest x c
       -- elsewhere the states are as before
       pub states : (line c : ℕ) → block_of layout line ≡ Some c → wanted_in layout c ws ≡ None
           → t.local.state line ≡ (locals i).state line
-
-    -- a block that no want is of
-    alone_wanted : (w : Want) (b : ℕ) → block_of layout (line_of w.at) ≡ Some b → (ws : List Want)
-        → IsAlone layout w ws → wanted_in layout b ws ≡ None
-    alone_wanted w b lies [] h = refl
-    alone_wanted w b lies (v ∷ vs) h =
-        ap (λ t. cond t (Some v.need) (wanted_in layout b vs))
-        (not_in (block_of layout (line_of v.at)) refl) ∙ alone_wanted w b lies vs h.1
-      where
-        tells : (d : ℕ) → block_of layout (line_of v.at) ≡ Some d → (t : Bool) → eqb d b ≡ t
-            → eqb d b ≡ false
-        tells d e false f = f
-        tells d e true f =
-            absurd (h.0 (lies ∙ ap (λ x. Some x) (sym (is_same d b f)) ∙ sym e))
-
-        not_in : (o : Option ℕ) → block_of layout (line_of v.at) ≡ o
-            → is_in_block layout b v.at ≡ false
-        not_in None e = ap (λ o. option_map_or (λ c. eqb c b) o false) e
-        not_in (Some d) e = ap (λ o. option_map_or (λ c. eqb c b) o false) e
-            ∙ tells d e (eqb d b) refl
-
-    not_first : (c : ℕ) (w : Want) (ws : List Want) (t : Bool) → is_in_block layout c w.at ≡ t
-        → cond t (Some w.need) (wanted_in layout c ws) ≡ None
-        → (is_in_block layout c w.at ≡ false) × (wanted_in layout c ws ≡ None)
-    not_first c w ws true e h = let bad : Some w.need ≡ None = h in cc
-    not_first c w ws false e h = (e, h)
 
     -- one more is asked for
     more_asked : (ws : List Want) (t1 : Handled protocol.Rest) → AllAsked ws t1 → (w : Want)
@@ -89,7 +101,7 @@ module _ (layout : Shape) (work : Work) (plan : List PlanEntry) (protocol : Prot
         let found = laid.found (line_of w.at) wanted.shared in
         let lies : block_of layout (line_of w.at) ≡ Some b =
         found.1 ∙ ap (λ o. Some (unwrap_or o 0)) (sym found.1) in
-        let free : wanted_in layout b ws ≡ None = alone_wanted w b lies ws alone in
+        let free : wanted_in layout b ws ≡ None = alone_wanted layout w b lies ws alone in
         let unmet : grants w.need ((locals1 i).state (line_of w.at)) ≡ false =
         ap (λ (n : NodeMemory). grants w.need (n.state (line_of w.at))) here
         ∙ ap (grants w.need) (a.states (line_of w.at) b lies free) ∙ wanted.unmet in
@@ -100,10 +112,7 @@ module _ (layout : Shape) (work : Work) (plan : List PlanEntry) (protocol : Prot
           shares = shares_like layout work (sharing_by layout work protocol side laid t.rest)
               (with_local locals1 i t.local) (with_local locals i t.local) s
               (λ j. (elim (eqb j i) as (λ u. cond u t.local (cond u t1.local (locals j))
-              ≡ cond u t.local (locals j)) [
-                | true ↦ refl
-                | false ↦ refl
-              ]))
+              ≡ cond u t.local (locals j)) [ true ↦ refl | false ↦ refl ]))
               (want_shares layout work (sharing_by layout work protocol side laid t1.rest)
               (sharing_by layout work protocol side laid t.rest) locals1 s i t.local a.shares below
               (wanted_by layout work protocol side laid locals1 t1.rest s i b w.need t left));
@@ -111,7 +120,7 @@ module _ (layout : Shape) (work : Work) (plan : List PlanEntry) (protocol : Prot
           others = λ x c e.
               left.others x c (ap (λ u. u && eqb c b) e) ∙ a.others x c e;
           states = λ line c e f.
-              let g = not_first c w ws (is_in_block layout c w.at) refl f in
+              let g = not_first layout c w ws (is_in_block layout c w.at) refl f in
               let other : eqb c b ≡ false = elsewhere c b lies g.0 in
               left.elsewhere line c e other
               ∙ ap (λ (n : NodeMemory). n.state line) here ∙ a.states line c e g.1;
@@ -163,31 +172,13 @@ module _ (layout : Shape) (work : Work) (plan : List PlanEntry) (protocol : Prot
       states = λ line c e f. refl;
     }
 
-    -- the same wants in the other order
-    in_block : (b : ℕ) (o : Option ℕ) → option_map_or (λ c. eqb c b) o false ≡ true → o ≡ Some b
-    in_block b None e = let bad : false ≡ true = e in cc
-    in_block b (Some d) e = ap (λ x. Some x) (is_same d b e)
-
-    swapped : (w v : Want) → block_of layout (line_of w.at) ≢ block_of layout (line_of v.at)
-        → (c : ℕ) → wanted_in layout c (v ∷ w ∷ []) ≡ wanted_in layout c (w ∷ v ∷ [])
-    swapped w v apart_ c = go (is_in_block layout c w.at) (is_in_block layout c v.at) refl refl
-      where
-        go : (x y : Bool) → is_in_block layout c w.at ≡ x → is_in_block layout c v.at ≡ y
-            → cond y (Some v.need) (cond x (Some w.need) None)
-            ≡ cond x (Some w.need) (cond y (Some v.need) None)
-        go true true e f = absurd (apart_ (in_block c (block_of layout (line_of w.at)) e
-            ∙ sym (in_block c (block_of layout (line_of v.at)) f)))
-        go true false e f = refl
-        go false true e f = refl
-        go false false e f = refl
-
     two_asked : (w v : Want) → block_of layout (line_of w.at) ≢ block_of layout (line_of v.at)
         → (t : Handled protocol.Rest) → AllAsked (v ∷ w ∷ []) t → AllAsked (w ∷ v ∷ []) t
     two_asked w v other t a = record {
       shares = a.shares;
-      own = λ c. a.own c ∙ swapped w v other c;
+      own = λ c. a.own c ∙ swapped layout w v other c;
       others = a.others;
-      states = λ line c e f. a.states line c e (swapped w v other c ∙ f);
+      states = λ line c e f. a.states line c e (swapped layout w v other c ∙ f);
     }
 
     -- a word's wants, where nothing is waited for before

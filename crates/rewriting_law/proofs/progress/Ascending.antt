@@ -3,20 +3,8 @@
 use Rattle.std.proofs.Common.{◌≡◌, ◌≢◌, ℕ, zero, suc, ◌+◌, ◌<◌, ◌≤◌, ◌⊎◌, cond, eqb, Bool, true, false, List, [], ◌∷◌, ◌++◌, length, refl, sym, ap, ◌∙◌, subst, inl, inr, arith}
 use Rattle.std.specs.Prelude.{◌&&◌, Contains}
 use Rattle.std.proofs.lemmas.Bool.Decides.{eqb_tells}
-use Rattle.rv32_program.specs.declared.End.TheVariants.{Stopped}
-use Rattle.rv32_program.specs.Program.{Program}
-use Rattle.rv32_step.specs.OneMemory.{State, run}
-use Rattle.home_directory.specs.dsm_messages.declared.messages.Wire.{Wire}
-use Rattle.templates.specs.declared.plans.PlanEntry.{PlanEntry}
-use Rattle.templates.specs.Places.{IsPlace}
-use Rattle.templates.specs.Plans.{AscendsFrom, addresses}
+use Rattle.rewriting_law.proofs.Names.{Stopped, Program, State, run, Wire, PlanEntry, IsPlace, AscendsFrom, addresses, Work, Node, Move, Waits, Leaves, Running, Resumed, Ended, phase_after, word_outcome, is_at_poll, standing_of, standing_in, is_ended, wants_of, after_word, after_wants, word_turn, take_turn, each_block_once, Core, Event, Exec, Take, May, IsCoreRun, opening_core, may_take, take_first, event_step, after, pc_at, committed_at, committed, HasNoPollWithin, Ascend, AscendFromThird, commits, picks_at, original_by_node}
 use Rattle.dsm_protocol.specs.node_model.declared.Standing.TheVariants as standing
-use Rattle.dsm_protocol.specs.node_model.Node.{Work, Node, Move, Next, Again, To, Enters, Waits, Leaves, Running, Resumed, Ended, phase_after, word_outcome, is_at_poll, standing_of, standing_in}
-use Rattle.dsm_protocol.specs.node_model.Turns.{is_ended, wants_of, after_word, after_wants, word_turn, take_turn, each_block_once}
-use Rattle.dsm_protocol.specs.node_model.Core.{Core, Event, Exec, Take, May, IsCoreRun, opening_core, may_take, take_first, event_step, after}
-use Rattle.rewriting_law.specs.Ascents.{pc_at, committed_at, committed, HasNoPollWithin, Ascend, AscendFromThird}
-use Rattle.rewriting_law.specs.CoreRun.{commits, picks_at}
-use Rattle.rewriting_law.specs.Interleaving.{original_by_node}
 use Rattle.rewriting_law.proofs.templates.RegisterLemmas.{equal}
 use Rattle.rewriting_law.proofs.words.CodeSide.{Pace, one_if, CodeSide}
 use Rattle.rewriting_law.proofs.one_memory.Matching.{Runs, StandsIn}
@@ -53,8 +41,7 @@ ascends_from_third program (x ∷ xs) h = climb_ascends program xs h
 -- places that ascend from a number on
 abbrev ClimbFrom : Program → ℕ → List ℕ → Type 0
 ClimbFrom program low [] = Unit {0}
-ClimbFrom program low (x ∷ xs) =
-    (low ≤ x) × IsPlace program.code x × ClimbFrom program (x + 1) xs
+ClimbFrom program low (x ∷ xs) = (low ≤ x) × IsPlace program.code x × ClimbFrom program (x + 1) xs
 
 climbs_on : (program : Program) (x : ℕ) (xs : List ℕ) → Climb program (x ∷ xs)
     → ClimbFrom program (x + 1) xs
@@ -82,8 +69,7 @@ in_rest e es a above (zero, lt, is) = absurd (omega (arith, above, is))
 in_rest e es a above (suc k, lt, is) = (k, omega (arith, lt), is)
 
 all_in_rest : (program : Program) (low : ℕ) (e : PlanEntry) (es : List PlanEntry)
-    → low ≤ e.address → HasAllFrom program low (e ∷ es)
-    → HasAllFrom program (e.address + 1) es
+    → low ≤ e.address → HasAllFrom program low (e ∷ es) → HasAllFrom program (e.address + 1) es
 all_in_rest program low e es first all a place above =
     in_rest e es a above (all a place (omega (arith, first, above)))
 
@@ -135,10 +121,7 @@ move_unresumed budget executed m h = go m h
     go : (m : Move) → phase_after budget executed m ≡ Resumed → ⊥
     go (Leaves e) h = cc
     go (Waits resume want more) h = cc
-    go Next h = stops (eqb executed budget) h
-    go Again h = stops (eqb executed budget) h
-    go (To target) h = stops (eqb executed budget) h
-    go (Enters target) h = stops (eqb executed budget) h
+    go other h = stops (eqb executed budget) h
 
 word_unresumed : (work : Work) (n : Node) → (word_turn work n).node.phase ≢ Resumed
 word_unresumed work n h =
@@ -160,8 +143,7 @@ module _ (work : Work) (plan : List PlanEntry) (lay : Layout work)
 
   -- a node that may take no message, and hasn't just got what it waited for
   abbrev IsSilent : Core → ℕ → Type 0
-  IsSilent c i =
-      (may_take (standing_of work (c.nodes i)) ≡ false) × ((c.nodes i).phase ≢ Resumed)
+  IsSilent c i = (may_take (standing_of work (c.nodes i)) ≡ false) × ((c.nodes i).phase ≢ Resumed)
 
   -- an event by which node i commits nothing
   record Keeps (c : Core) (i : ℕ) (p p' : Pace) (e : Event) : Type 0 where
@@ -442,8 +424,7 @@ module _ (work : Work) (plan : List PlanEntry) (lay : Layout work)
       elim (either c s m i low e may.0) [
         | inl k ↦
             subst (λ xs. Climb work.program (behind_first (xs ++ committed work plan i d es)))
-            (sym k.none)
-            (climbs es d t leads.behind i low may.1 (runs_on i d es on))
+            (sym k.none) (climbs es d t leads.behind i low may.1 (runs_on i d es on))
         | inr k ↦ (
             let now = ap (λ (f : ℕ → Pace). (f i).since) leads.paced in
             let some = k.some in
@@ -461,8 +442,7 @@ module _ (work : Work) (plan : List PlanEntry) (lay : Layout work)
 
   pub climbs_between : (first between rest : List Event) (i : ℕ) → i < work.layout.nodes
       → IsCoreRun work (opening_core work) (first ++ (between ++ rest))
-      → HasNoPollWithin work i (after work (opening_core work) first) between
-      → Climb work.program
+      → HasNoPollWithin work i (after work (opening_core work) first) between → Climb work.program
       (behind_first (committed work plan i (after work (opening_core work) first) between))
   climbs_between first between rest i low may none =
       let c = after work (opening_core work) first in

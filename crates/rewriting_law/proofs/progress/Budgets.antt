@@ -2,13 +2,9 @@
 use Rattle.std.proofs.Common.{◌≡◌, ℕ, ◌+◌, ◌<◌, ◌≤◌, cond, eqb, Bool, true, false, List, [], ◌∷◌, refl, sym, ap, ◌∙◌, subst, inl, inr, arith}
 use Rattle.std.specs.Prelude.{◌&&◌, not}
 use Rattle.std.proofs.lemmas.Bool.Decides.{eqb_tells, nat_tests}
-use Rattle.rv32_program.specs.declared.End.TheVariants.{Stopped}
-use Rattle.home_directory.specs.dsm_messages.declared.messages.Wire.{Wire}
+use Rattle.rewriting_law.proofs.Names.{Stopped, Wire, Work, Node, Move, Waits, Leaves, Phase, Running, Resumed, Waiting, Ended, can_execute, phase_after, stop_or, has_all_byes, standing_in, word_outcome, is_ended, wants_of, after_word, after_wants, word_turn, handled, resumed, journaled, after_message, take_turn, each_block_once, Core, Event, Exec, Take, IsCoreRun, may_execute, take_first, event_step, after}
 use Rattle.dsm_protocol.specs.node_model.declared.Standing.TheVariants as standing
-use Rattle.dsm_protocol.specs.node_model.Node.{Work, Node, Move, Next, Again, To, Enters, Waits, Leaves, Phase, Running, Resumed, Waiting, Ended, can_execute, phase_after, stop_or, has_all_byes, standing_in, word_outcome}
-use Rattle.dsm_protocol.specs.node_model.Turns.{is_ended, wants_of, after_word, after_wants, word_turn, handled, has_no_wait, resumed, journaled, after_message, take_turn, each_block_once}
-use Rattle.dsm_protocol.specs.node_model.Core.{Core, Event, Exec, Take, IsCoreRun, may_execute, take_first, event_step, after}
-use Rattle.rewriting_law.proofs.runs.Turns.{byes_node, wants_same, handled_same, goes_on_from}
+use Rattle.rewriting_law.proofs.runs.Turns.{byes_node, wants_same, handled_same, resumed_is}
 
 module _ (work : Work) where
   -- a node that may execute a word has one left
@@ -29,14 +25,10 @@ module _ (work : Work) where
       → can_execute (phase_after work.budget executed m) ≡ true → executed < work.budget
   move_less executed (Leaves e) most h = let bad : false ≡ true = h in cc
   move_less executed (Waits resume want more) most h = let bad : false ≡ true = h in cc
-  move_less executed Next most h = stop_less executed Running most h
-  move_less executed Again most h = stop_less executed Running most h
-  move_less executed (To address) most h = stop_less executed Running most h
-  move_less executed (Enters original) most h = stop_less executed Running most h
+  move_less executed other most h = stop_less executed Running most h
 
   -- a word
-  word_within : (n : Node) → Within n → can_execute n.phase ≡ true
-      → Within (word_turn work n).node
+  word_within : (n : Node) → Within n → can_execute n.phase ≡ true → Within (word_turn work n).node
   word_within n h may =
       let t = after_wants work n in
       let move = (word_outcome work n).move in
@@ -53,14 +45,9 @@ module _ (work : Work) where
 
   -- a message
   goes_within : (n : Node) (phase : Phase) → Within n → Within (resumed work n phase)
-  goes_within n Running h = h
-  goes_within n Resumed h = h
-  goes_within n (Ended end) h = h
-  goes_within n (Waiting resume) h = go (has_no_wait work.layout n)
-    where
-      go : (none : Bool) → Within (cond none (goes_on_from work n resume) n)
-      go true = record { most = h.most; less = stop_less n.executed Resumed h.most }
-      go false = h
+  goes_within n phase h =
+      resumed_is work n Within h
+      (λ resume. record { most = h.most; less = stop_less n.executed Resumed h.most }) phase
 
   message_within : (n : Node) (j : ℕ) (wire : Wire) → Within n
       → Within (take_turn work n j wire).node

@@ -3,16 +3,7 @@
 use Rattle.std.proofs.Common.{◌≡◌, ℕ, zero, suc, ◌<◌, ◌≤◌, cond, eqb, Bool, true, false, List, [], ◌∷◌, ◌++◌, refl, sym, ap, ◌∙◌, subst, inl, inr, arith, append-nil}
 use Rattle.std.specs.Prelude.{◌||◌, ◌&&◌, not}
 use Rattle.std.proofs.lemmas.Bool.Decides.{eqb_tells}
-use Rattle.home_directory.specs.dsm_messages.declared.messages.Message.{Message}
-use Rattle.home_directory.specs.dsm_messages.declared.messages.Message.TheVariants.{Read, Write, FwdRead, FwdWrite, Inval, Data, Grant, Ack, Done, Bye}
-use Rattle.home_directory.specs.dsm_messages.declared.messages.Post.{Post}
-use Rattle.home_directory.specs.dsm_messages.declared.messages.Wire.{Wire}
-use Rattle.home_directory.specs.Home.{post}
-use Rattle.dsm_protocol.specs.miss_handlers.Rows.{is_bye}
-use Rattle.dsm_protocol.specs.Holds.{NoneIs, is_for_home, is_done, AreSettled}
-use Rattle.dsm_protocol.specs.node_model.Turns.{Turn, byes_to, is_ended}
-use Rattle.dsm_protocol.specs.node_model.Core.{Core, wires_to, with_turn}
-use Rattle.rewriting_law.specs.ProtocolLists.{messages_of}
+use Rattle.rewriting_law.proofs.Names.{Message, Done, Bye, Post, Wire, post, is_bye, NoneIs, is_for_home, is_done, AreSettled, Turn, byes_to, is_ended, Core, wires_to, with_turn, messages_of}
 use Rattle.rewriting_law.proofs.templates.RegisterLemmas.{apart}
 use Rattle.rewriting_law.proofs.one_memory.Sharing.{is_same}
 use Rattle.rewriting_law.proofs.progress.Farewells.{has_bye, Parts, Farewells}
@@ -41,8 +32,7 @@ neither_of true b e = let bad : true ≡ false = e in cc
 neither_of false b e = (refl, e)
 
 -- where no Bye was said
-calm_fresh : (ws xs : List Wire) → has_bye ws ≡ false
-    → is_calm false (ws ++ xs) ≡ is_calm false xs
+calm_fresh : (ws xs : List Wire) → has_bye ws ≡ false → is_calm false (ws ++ xs) ≡ is_calm false xs
 calm_fresh [] xs e = refl
 calm_fresh (w ∷ ws) xs e =
     let none = neither_of (is_bye w.message) (has_bye ws) e in
@@ -52,8 +42,7 @@ calm_fresh (w ∷ ws) xs e =
 -- neither Byes nor messages for homes
 abbrev pub Neither : List Wire → Type 0
 Neither [] = Unit {0}
-Neither (w ∷ ws) =
-    (is_bye w.message ≡ false) × (is_for_home w.message ≡ false) × Neither ws
+Neither (w ∷ ws) = (is_bye w.message ≡ false) × (is_for_home w.message ≡ false) × Neither ws
 
 never : (b : Bool) → not (b && false) ≡ true
 never true = refl
@@ -143,8 +132,7 @@ byes_calm stamp k (suc n) = elim (eqb_tells n k) [
       ap (is_calm false) (wires_append stamp k (byes_to n) (post n Bye ∷ [])
       ∙ ap (λ t. wires_to stamp k (byes_to n)
       ++ cond t (record { stamp = stamp; message = Bye } ∷ []) []) e.0
-      ∙ append-nil (wires_to stamp k (byes_to n)))
-      ∙ byes_calm stamp k n
+      ∙ append-nil (wires_to stamp k (byes_to n))) ∙ byes_calm stamp k n
 ]
 
 pub sends_calm : (stamp k n : ℕ) (ps : List Post) → NoneIs is_bye ps
@@ -161,8 +149,7 @@ plainly_calm stamp k ps h =
 pub calm_popped : (taken b : Bool) (w : Wire) (ws : List Wire) → is_bye w.message ≡ b
     → is_calm taken (w ∷ ws) ≡ true → is_calm (b || taken) ws ≡ true
 calm_popped taken true w ws e h =
-    right_of (not taken) (is_calm true ws)
-    (sym (ap (λ z. cond z (not taken && is_calm true ws)
+    right_of (not taken) (is_calm true ws) (sym (ap (λ z. cond z (not taken && is_calm true ws)
     (not (taken && is_for_home w.message) && is_calm taken ws)) e) ∙ h)
 calm_popped taken false w ws e h =
     right_of (not (taken && is_for_home w.message)) (is_calm taken ws)
@@ -174,22 +161,14 @@ one_left : (m : Message) (r q : Bool) → cond (is_bye m) (not true && r)
     (not (true && is_for_home m) && q) ≡ true → (is_done m || is_bye m) ≡ true → ⊥
 one_left Bye r q e h = let bad : false ≡ true = e in cc
 one_left (Done b) r q e h = let bad : false ≡ true = e in cc
-one_left (Read b buf) r q e h = let bad : false ≡ true = h in cc
-one_left (Write b buf) r q e h = let bad : false ≡ true = h in cc
-one_left (FwdRead b s buf) r q e h = let bad : false ≡ true = h in cc
-one_left (FwdWrite b s k buf) r q e h = let bad : false ≡ true = h in cc
-one_left (Inval b s) r q e h = let bad : false ≡ true = h in cc
-one_left (Data b k buf) r q e h = let bad : false ≡ true = h in cc
-one_left (Grant b k buf) r q e h = let bad : false ≡ true = h in cc
-one_left (Ack b) r q e h = let bad : false ≡ true = h in cc
+one_left other r q e h = let bad : false ≡ true = h in cc
 
 pub none_left : (ws : List Wire) → is_calm true ws ≡ true → AreSettled (messages_of ws) → ws ≡ []
 none_left [] e h = refl
 none_left (w ∷ ws) e h = absurd (one_left w.message (is_calm true ws) (is_calm true ws) e h.0)
 
 pub record IsCalm (nodes : ℕ) (c : Core) : Type 0 where
-  pub lists : (x y : ℕ) → x < nodes → y < nodes
-      → is_calm ((c.nodes y).byes x) (c.list x y) ≡ true
+  pub lists : (x y : ℕ) → x < nodes → y < nodes → is_calm ((c.nodes y).byes x) (c.list x y) ≡ true
 
 -- a turn of node i
 module _ (nodes : ℕ) (c : Core) (i : ℕ) (below : i < nodes) (list : ℕ → ℕ → List Wire) (t : Turn)
@@ -199,8 +178,7 @@ module _ (nodes : ℕ) (c : Core) (i : ℕ) (below : i < nodes) (list : ℕ → 
 
   -- what is sent where the node had ended before, and where it hadn't
   pub record Sends : Type 0 where
-    pub popped : (x y : ℕ) → x < nodes → y < nodes
-        → is_calm ((c'.nodes y).byes x) (list x y) ≡ true
+    pub popped : (x y : ℕ) → x < nodes → y < nodes → is_calm ((c'.nodes y).byes x) (list x y) ≡ true
     pub fresh : is_ended (c.nodes i).phase ≡ false → (y : ℕ) → y < nodes
         → is_calm false (wires_to t.node.stamp y t.sends) ≡ true
     pub late : is_ended (c.nodes i).phase ≡ true → (y : ℕ) → y < nodes
@@ -234,8 +212,7 @@ module _ (nodes : ℕ) (c : Core) (i : ℕ) (below : i < nodes) (list : ℕ → 
 
   pub calm_then : Sends → IsCalm nodes c'
   calm_then s = record {
-    lists = λ x y lx ly. (elim (eqb x i) as (λ z. eqb x i ≡ z
-        → is_calm ((c'.nodes y).byes x)
+    lists = λ x y lx ly. (elim (eqb x i) as (λ z. eqb x i ≡ z → is_calm ((c'.nodes y).byes x)
         (cond z (list x y ++ wires_to t.node.stamp y t.sends) (list x y)) ≡ true) [
           | true ↦ (λ q. subst (λ k. is_calm ((c'.nodes y).byes k)
               (list k y ++ wires_to t.node.stamp y t.sends) ≡ true) (sym (is_same x i q))
@@ -252,5 +229,4 @@ module _ (nodes : ℕ) (c : Core) (i : ℕ) (below : i < nodes) (list : ℕ → 
       own y low false e =
           let none = no_bye_yet e y low in
           ap (λ z. is_calm z (list i y ++ wires_to t.node.stamp y t.sends)) none.1
-          ∙ calm_fresh (list i y) (wires_to t.node.stamp y t.sends) none.0
-          ∙ s.fresh e y low
+          ∙ calm_fresh (list i y) (wires_to t.node.stamp y t.sends) none.0 ∙ s.fresh e y low

@@ -1,36 +1,18 @@
 -- Each event of a core keeps what holds of Byes.
 use Rattle.std.proofs.Common.{◌≡◌, ℕ, ◌<◌, ◌⊎◌, cond, eqb, Bool, true, false, List, [], ◌∷◌, ◌++◌, Option, Some, None, refl, sym, ap, ◌∙◌, subst, inl, inr}
 use Rattle.std.specs.Prelude.{◌||◌, ◌&&◌, not}
-use Rattle.block_layout.specs.Layout.{Shape, block_of}
-use Rattle.block_layout.specs.Update.{changed}
-use Rattle.buf_pool.specs.Pool.{Buffer, empty_buffer}
-use Rattle.home_directory.specs.dsm_messages.declared.messages.Need.{Need}
+use Rattle.rewriting_law.proofs.Names.{Shape, block_of, changed, Buffer, empty_buffer, Need, Message, Bye, Post, Wire, post, LocalBlock, BlockFacts, Miss, first_wait, state_in_wait, want_row, meets, block_facts, Row, AtHome, AtNode, row_of, block_in, is_bye, line_of, State, PlanEntry, sends_in, NoneIs, is_for_home, Work, Node, Want, Phase, Running, Waiting, Ended, word_outcome, Resumed, Turn, byes_to, with_byes, is_ended, block_at, wants_of, with_miss, want_in, want_all, after_word, after_wants, by_row_or, handled, holding, resumed, journaled, after_message, each_block_once, Core, Event, Exec, Take, May, opening_core, wires_to, with_turn, with_list, take_first, event_step, messages_of}
 use Rattle.home_directory.specs.dsm_messages.declared.messages.Need.TheVariants as need
-use Rattle.home_directory.specs.dsm_messages.declared.messages.Message.{Message}
-use Rattle.home_directory.specs.dsm_messages.declared.messages.Message.TheVariants.{Read, Write, FwdRead, FwdWrite, Inval, Data, Grant, Ack, Done, Bye}
-use Rattle.home_directory.specs.dsm_messages.declared.messages.Post.{Post}
-use Rattle.home_directory.specs.dsm_messages.declared.messages.Wire.{Wire}
-use Rattle.home_directory.specs.Home.{post}
-use Rattle.home_directory.specs.Table.{LocalBlock, BlockFacts, Miss, request, first_wait, state_in_wait, want_row, meets}
-use Rattle.dsm_protocol.specs.miss_handlers.Effects.{block_facts}
-use Rattle.dsm_protocol.specs.miss_handlers.Rows.{Row, AtHome, AtNode, row_of, block_in, is_bye}
-use Rattle.rv32_program.specs.Program.{line_of}
-use Rattle.rv32_step.specs.OneMemory.{State}
-use Rattle.templates.specs.declared.plans.PlanEntry.{PlanEntry}
-use Rattle.dsm_protocol.specs.Events.{sends_in}
-use Rattle.dsm_protocol.specs.Holds.{NoneIs, is_for_home}
+use Rattle.home_directory.specs.dsm_messages.declared.messages.Message.TheVariants.{Read, Write}
+use Rattle.home_directory.specs.Table.{request}
 use Rattle.dsm_protocol.proofs.ProtocolSide as world
-use Rattle.dsm_protocol.specs.node_model.Node.{Work, Node, Want, Phase, Running, Waiting, Ended, word_outcome, Resumed}
-use Rattle.dsm_protocol.specs.node_model.Turns.{Turn, byes_to, with_byes, is_ended, block_at, wants_of, with_miss, want_in, want_all, after_word, after_wants, by_row_or, handled, holding, has_no_wait, resumed, journaled, after_message, each_block_once}
-use Rattle.dsm_protocol.specs.node_model.Core.{Core, Event, Exec, Take, May, opening_core, wires_to, with_turn, with_list, take_first, event_step}
-use Rattle.rewriting_law.specs.ProtocolLists.{messages_of}
 use Rattle.rewriting_law.proofs.words.CodeSide.{CodeSide}
 use Rattle.rewriting_law.proofs.one_memory.Sharing.{is_same}
 use Rattle.rewriting_law.proofs.templates.RegisterLemmas.{equal}
 use Rattle.rewriting_law.proofs.one_memory.Matching.{Activity, Runs, Awaits, HasEnded, wait_in}
 use Rattle.rewriting_law.proofs.protocol_side.Directory.{world_of, directory}
 use Rattle.rewriting_law.proofs.protocol_side.DirectorySide.{Layout, not_waiting, laid_out, directory_side}
-use Rattle.rewriting_law.proofs.runs.Turns.{byes_node, handled_same, goes_on_from}
+use Rattle.rewriting_law.proofs.runs.Turns.{byes_node, handled_same, resumed_is}
 use Rattle.rewriting_law.proofs.runs.TurnTies.{rest_of, locals_of}
 use Rattle.rewriting_law.proofs.runs.Composed.{IsPhase, MatchesCore, may_run}
 use Rattle.rewriting_law.proofs.runs.Alone.{bye_noted}
@@ -47,8 +29,7 @@ both_right false b e = let bad : false ≡ true = e in cc
 
 -- 1. What a turn sends beside Byes
 
-no_bye_behind : (ps qs : List Post) → NoneIs is_bye ps → NoneIs is_bye qs
-    → NoneIs is_bye (ps ++ qs)
+no_bye_behind : (ps qs : List Post) → NoneIs is_bye ps → NoneIs is_bye qs → NoneIs is_bye (ps ++ qs)
 no_bye_behind [] qs h g = g
 no_bye_behind (p ∷ ps) qs h g = (h.0, no_bye_behind ps qs h.1 g)
 
@@ -120,26 +101,10 @@ module _ (layout : Shape) where
   pub handled_by_row : (n : Node) (j : ℕ) (m : Message) → is_bye m ≡ false
       → handled layout n j m ≡ by_row_or layout n (row_of layout n.me (holding layout n) j m)
   handled_by_row n j Bye e = absurd cc
-  handled_by_row n j (Read b buf) e = refl
-  handled_by_row n j (Write b buf) e = refl
-  handled_by_row n j (FwdRead b r buf) e = refl
-  handled_by_row n j (FwdWrite b r k buf) e = refl
-  handled_by_row n j (Inval b r) e = refl
-  handled_by_row n j (Data b k buf) e = refl
-  handled_by_row n j (Grant b k buf) e = refl
-  handled_by_row n j (Ack b) e = refl
-  handled_by_row n j (Done b) e = refl
+  handled_by_row n j other e = refl
 
 pub resumed_byes : (work : Work) (n : Node) (phase : Phase) → (resumed work n phase).byes ≡ n.byes
-resumed_byes work n Running = refl
-resumed_byes work n Resumed = refl
-resumed_byes work n (Ended end) = refl
-resumed_byes work n (Waiting resume) =
-    let on = goes_on_from work n resume in
-    (elim (has_no_wait work.layout n) as (λ z. (cond z on n).byes ≡ n.byes) [
-      | true ↦ refl
-      | false ↦ refl
-    ])
+resumed_byes work n = resumed_is work n (λ m. m.byes ≡ n.byes) refl (λ resume. refl)
 
 -- an ended node stays so
 resumed_ended : (work : Work) (n : Node) (phase : Phase) → n.phase ≡ phase
@@ -153,8 +118,7 @@ resumed_ended work n (Ended end) is e = ap is_ended is
 module _ (nodes : ℕ) (t : Turn) where
   said : (ends : Bool) (y : ℕ) → NoneIs is_bye t.sends
       → has_bye (wires_to (with_byes nodes t ends).node.stamp y (with_byes nodes t ends).sends)
-      ≡ true
-      → ends ≡ true
+      ≡ true → ends ≡ true
   said true y plain e = refl
   said false y plain e =
       let bad : false ≡ true = sym (no_bye_sent t.node.stamp y t.sends plain) ∙ e in cc
@@ -166,8 +130,7 @@ module _ (nodes : ℕ) (t : Turn) where
   says_all true e y low =
       bye_after t.node.stamp y t.sends (byes_to nodes) (bye_to t.node.stamp y nodes low)
 
-turn_calm : (nodes : ℕ) (t : Turn) (ends : Bool) (y : ℕ) → NoneIs is_bye t.sends
-    → is_calm false
+turn_calm : (nodes : ℕ) (t : Turn) (ends : Bool) (y : ℕ) → NoneIs is_bye t.sends → is_calm false
     (wires_to (with_byes nodes t ends).node.stamp y (with_byes nodes t ends).sends) ≡ true
 turn_calm nodes t true y plain = sends_calm t.node.stamp y nodes t.sends plain
 turn_calm nodes t false y plain = plainly_calm t.node.stamp y t.sends plain
@@ -313,8 +276,7 @@ module _ (work : Work) (plan : List PlanEntry) (lay : Layout work)
         noted : (x : ℕ) → t1.node.byes x ≡ true
             → (n.byes x ≡ true) ⊎ ((x ≡ j) × (is_bye wire.message ≡ true))
         here : is_bye wire.message ≡ true → t1.node.byes j ≡ true
-        now : (x : ℕ) → t1.node.byes x
-            ≡ cond (eqb x j) (is_bye wire.message || n.byes x) (n.byes x)
+        now : (x : ℕ) → t1.node.byes x ≡ cond (eqb x j) (is_bye wire.message || n.byes x) (n.byes x)
         plain : NoneIs is_bye t1.sends
         homes : is_ended n.phase ≡ true → NoneIs is_for_home t1.sends
 
@@ -333,8 +295,7 @@ module _ (work : Work) (plan : List PlanEntry) (lay : Layout work)
                   | true ↦ (λ q g. inr (is_same x j q, e))
                   | false ↦ (λ q g. inl g)
                 ]) refl (sym (ap (λ g. g x) byes) ∙ h);
-            here = λ h. ap (λ g. g j) byes
-                ∙ ap (λ z. cond z true (n.byes j)) (equal j j refl);
+            here = λ h. ap (λ g. g j) byes ∙ ap (λ z. cond z true (n.byes j)) (equal j j refl);
             now = λ x. ap (λ g. g x) byes
                 ∙ ap (λ b. cond (eqb x j) (b || n.byes x) (n.byes x)) (sym e);
             plain = subst (λ (x : Turn). NoneIs is_bye x.sends) (sym is) tt;
@@ -367,8 +328,7 @@ module _ (work : Work) (plan : List PlanEntry) (lay : Layout work)
           }
 
       byes_then : u.node.byes ≡ t1.node.byes
-      byes_then = ap (λ (x : Node). x.byes) same_node
-          ∙ resumed_byes work t1.node t1.node.phase
+      byes_then = ap (λ (x : Node). x.byes) same_node ∙ resumed_byes work t1.node t1.node.phase
 
       had : (x y : ℕ) → has_bye (list x y) ≡ true → has_bye (c.list x y) ≡ true
       had x y e = (elim (eqb x j && eqb y i) as (λ z. (eqb x j && eqb y i) ≡ z
@@ -390,8 +350,7 @@ module _ (work : Work) (plan : List PlanEntry) (lay : Layout work)
                 let is_y = is_same y i (both_right (eqb x j) (eqb y i) q) in
                 let at : c.list x y ≡ wire ∷ ws =
                 ap (λ k. c.list k y) is_x ∙ ap (c.list j) is_y ∙ front in
-                elim (left_or_right (is_bye wire.message) (has_bye ws)
-                (sym (ap has_bye at) ∙ e)) [
+                elim (left_or_right (is_bye wire.message) (has_bye ws) (sym (ap has_bye at) ∙ e)) [
                   | inl g ↦ inr (
                     is_y,
                     ap (λ h. h x) byes_then ∙ ap t1.node.byes is_x
@@ -455,15 +414,12 @@ module _ (work : Work) (plan : List PlanEntry) (lay : Layout work)
           → is_calm ((cond b u.node (c.nodes y)).byes x) (cond (eqb x j && b) ws (c.list x y))
           ≡ true
       popped_calm k x y lx ly true q =
-          ap (λ z. is_calm (u.node.byes x) (cond (eqb x j && true) ws (c.list x z)))
-          (is_same y i q)
+          ap (λ z. is_calm (u.node.byes x) (cond (eqb x j && true) ws (c.list x z))) (is_same y i q)
           ∙ ap (λ g. is_calm (g x) (cond (eqb x j && true) ws (c.list x i))) byes_then
           ∙ ap (λ z. is_calm z (cond (eqb x j && true) ws (c.list x i)))
-          ((notes (is_bye wire.message) refl).now x)
-          ∙ own_popped k x lx (eqb x j) refl
+          ((notes (is_bye wire.message) refl).now x) ∙ own_popped k x lx (eqb x j) refl
       popped_calm k x y lx ly false q =
-          ap (is_calm ((c.nodes y).byes x)) (other_list (eqb x j) (c.list x y))
-          ∙ k.lists x y lx ly
+          ap (is_calm ((c.nodes y).byes x)) (other_list (eqb x j) (c.list x y)) ∙ k.lists x y lx ly
 
       message_calm : IsCalm layout.nodes c
           → IsCalm layout.nodes (with_turn (with_list c j i ws) i u)

@@ -3,34 +3,13 @@ use Rattle.std.proofs.Common.{◌≡◌, ℕ, zero, suc, ◌+◌, ◌*◌, ◌<�
 use Rattle.std.specs.Prelude.{sum_by, unwrap_or, not, ◌&&◌}
 use Rattle.std.specs.List.{range_with_len}
 use Rattle.std.proofs.lemmas.List.FromFn.{sum_by-map-range_with_len_more}
-use Rattle.block_layout.specs.Layout.{Shape, block_of}
-use Rattle.block_layout.specs.Update.{changed}
-use Rattle.buf_pool.specs.Pool.{empty_buffer}
-use Rattle.rv32_program.specs.Program.{line_of}
-use Rattle.rv32_step.specs.OneMemory.{State, opening, run}
+use Rattle.rewriting_law.proofs.Names.{Shape, block_of, changed, empty_buffer, line_of, State, opening, run, can_read, Need, Message, Bye, Wire, post, BlockFacts, LocalBlock, Miss, meets, state_in_wait, first_wait, want_row, block_facts, Row, AtHome, AtNode, row_of, PlanEntry, wanted, local_block, NodeCounts, Work, Node, NodeMemory, Want, Phase, Tally, Nothing_counted, tally_resumed, word_outcome, Turn, block_at, count_want, holding, is_ended, wants_of, with_miss, want_in, want_all, after_word, after_wants, word_turn, by_row_or, handled, resumed, journaled, after_message, take_turn, each_block_once, Core, Event, Exec, Take, May, IsCoreRun, opening_core, take_first, event_step, after, write_misses, AreFrugal, counts_after, messages_of, picks_at, original_by_node}
 use Rattle.state_table.specs.declared.State.{State as BlockState}
-use Rattle.state_table.specs.StateByte.{can_read}
-use Rattle.home_directory.specs.dsm_messages.declared.messages.Need.{Need}
 use Rattle.home_directory.specs.dsm_messages.declared.messages.Need.TheVariants as need
-use Rattle.home_directory.specs.dsm_messages.declared.messages.Message.{Message}
-use Rattle.home_directory.specs.dsm_messages.declared.messages.Message.TheVariants.{Read, Write, FwdRead, FwdWrite, Inval, Data, Grant, Ack, Done, Bye}
-use Rattle.home_directory.specs.dsm_messages.declared.messages.Wire.{Wire}
-use Rattle.home_directory.specs.Home.{post}
-use Rattle.home_directory.specs.Table.{BlockFacts, LocalBlock, Miss, meets, state_in_wait, first_wait, request, want_row}
-use Rattle.dsm_protocol.specs.miss_handlers.Effects.{block_facts}
-use Rattle.dsm_protocol.specs.miss_handlers.Rows.{Row, AtHome, AtNode, row_of}
-use Rattle.templates.specs.declared.plans.PlanEntry.{PlanEntry}
-use Rattle.dsm_protocol.specs.Holds.{wanted}
-use Rattle.dsm_protocol.specs.World.{local_block}
+use Rattle.home_directory.specs.dsm_messages.declared.messages.Message.TheVariants.{Read, Write}
+use Rattle.home_directory.specs.Table.{request}
 use Rattle.dsm_protocol.proofs.Promised.{proper}
-use Rattle.dsm_protocol.specs.node_model.declared.NodeCounts.{NodeCounts}
-use Rattle.dsm_protocol.specs.node_model.Node.{Work, Node, NodeMemory, Want, Phase, Running, Resumed, Waiting, Ended, Tally, Nothing_counted, FalseMiss, FallsBack, counts_after as tallied, tally_resumed, word_outcome}
-use Rattle.dsm_protocol.specs.node_model.Turns.{Turn, block_at, count_want, holding, is_ended, wants_of, with_miss, want_in, want_all, after_word, after_wants, word_turn, by_row_or, handled, has_no_wait, resumed, journaled, after_message, take_turn, each_block_once}
-use Rattle.dsm_protocol.specs.node_model.Core.{Core, Event, Exec, Take, May, IsCoreRun, opening_core, take_first, event_step, after}
-use Rattle.dsm_protocol.specs.node_model.Outcome.{write_misses, AreFrugal, counts_after}
-use Rattle.rewriting_law.specs.ProtocolLists.{messages_of}
-use Rattle.rewriting_law.specs.CoreRun.{picks_at}
-use Rattle.rewriting_law.specs.Interleaving.{original_by_node}
+use Rattle.dsm_protocol.specs.node_model.Node.{counts_after as tallied}
 use Rattle.rewriting_law.proofs.words.CodeSide.{CodeSide}
 use Rattle.rewriting_law.proofs.one_memory.Matching.{Runs}
 use Rattle.rewriting_law.proofs.one_memory.Sharing.{with_local, local_here}
@@ -39,7 +18,7 @@ use Rattle.rewriting_law.proofs.protocol_side.ProtocolSide.{Handled}
 use Rattle.rewriting_law.proofs.protocol_side.Spending.{Counts, no_counts, total, asks_more, few_sent}
 use Rattle.rewriting_law.proofs.protocol_side.Directory.{Rest, world_of, missed, miss_in, took, take_from, directory}
 use Rattle.rewriting_law.proofs.protocol_side.DirectorySide.{Layout}
-use Rattle.rewriting_law.proofs.runs.Turns.{byes_node, goes_on_from}
+use Rattle.rewriting_law.proofs.runs.Turns.{byes_node, resumed_is}
 use Rattle.rewriting_law.proofs.runs.TurnTies.{rest_at, locals_of, IsTurn, own_wait, block_by, AllFound, word_turned, want_turned}
 use Rattle.rewriting_law.proofs.runs.Composed.{MatchesCore, counts_of_word, counts_of_take, counts_by, may_run, found as blocks_found, event_leads, start_matches, start_counts}
 use Rattle.rewriting_law.proofs.progress.Short.{node_total}
@@ -58,18 +37,23 @@ record Spends (old new : NodeCounts) (before behind : Counts) : Type 0 where
   sent : new.messages ≡ old.messages + sends
   sends_too : behind.sent ≡ before.sent + sends
 
-spends_none : (c : NodeCounts) (k : Counts) → Spends c c k k
-spends_none c k = record {
+-- one that counts the same, where no more is sent either
+spends_same : (c d : NodeCounts) (k : Counts) → d.read ≡ c.read → write_misses d ≡ write_misses c
+    → d.messages ≡ c.messages → Spends c d k k
+spends_same c d k read write sent = record {
   reads = 0;
   writes = 0;
   sends = 0;
-  read = omega arith;
+  read = omega (arith, read);
   reads_too = omega arith;
-  write = omega arith;
+  write = omega (arith, write);
   writes_too = omega arith;
-  sent = omega arith;
+  sent = omega (arith, sent);
   sends_too = omega arith;
 }
+
+spends_none : (c : NodeCounts) (k : Counts) → Spends c c k k
+spends_none c k = spends_same c c k refl refl refl
 
 spends_then : (a b c : NodeCounts) (j k l : Counts) → Spends a b j k → Spends b c k l
     → Spends a c j l
@@ -101,28 +85,7 @@ spends_then a b c j k l f g =
 -- what a word or a wait counts is no message
 tally_spends : (t : Tally) (c : NodeCounts) (k : Counts) → Spends c (tallied t c) k k
 tally_spends Nothing_counted c k = spends_none c k
-tally_spends FalseMiss c k = record {
-  reads = 0;
-  writes = 0;
-  sends = 0;
-  read = omega arith;
-  reads_too = omega arith;
-  write = omega arith;
-  writes_too = omega arith;
-  sent = omega arith;
-  sends_too = omega arith;
-}
-tally_spends FallsBack c k = record {
-  reads = 0;
-  writes = 0;
-  sends = 0;
-  read = omega arith;
-  reads_too = omega arith;
-  write = omega arith;
-  writes_too = omega arith;
-  sent = omega arith;
-  sends_too = omega arith;
-}
+tally_spends other c k = spends_same c (tallied other c) k refl refl refl
 
 -- a request is sent for what is wanted
 some_wait : (t : Bool) (asked miss : Miss) (for : Need) → wanted asked.block.wait ≡ Some for
@@ -165,29 +128,23 @@ want_spends_one need.Write state c k = go (can_read state)
     fetched : NodeCounts
     fetched = record c { exclusive = c.exclusive + 1; messages = c.messages + 1 }
 
+    written : (d : NodeCounts) → d.read ≡ c.read → write_misses d ≡ write_misses c + 1
+        → d.messages ≡ c.messages + 1 → Spends c d k (asks_more (Some need.Write) k)
+    written d read write sent = record {
+      reads = 0;
+      writes = 1;
+      sends = 1;
+      read = omega (arith, read);
+      reads_too = omega arith;
+      write = write;
+      writes_too = omega arith;
+      sent = sent;
+      sends_too = omega arith;
+    }
+
     go : (t : Bool) → Spends c (cond t upgraded fetched) k (asks_more (Some need.Write) k)
-    go true = record {
-      reads = 0;
-      writes = 1;
-      sends = 1;
-      read = omega arith;
-      reads_too = omega arith;
-      write = omega arith;
-      writes_too = omega arith;
-      sent = omega arith;
-      sends_too = omega arith;
-    }
-    go false = record {
-      reads = 0;
-      writes = 1;
-      sends = 1;
-      read = omega arith;
-      reads_too = omega arith;
-      write = omega arith;
-      writes_too = omega arith;
-      sent = omega arith;
-      sends_too = omega arith;
-    }
+    go true = written upgraded refl (omega arith) refl
+    go false = written fetched refl (omega arith) refl
 
 miss_spends : (layout : Shape) (b : ℕ) (for : Need) (t : Turn) (n : NodeMemory) (rest : Rest) (i : ℕ)
     (o : Option Miss) → ((x : Miss) → o ≡ Some x → wanted x.block.wait ≡ Some for)
@@ -244,8 +201,7 @@ module _ (c : Core) (i : ℕ) (layout : Shape) where
 
 -- what a row sends is counted
 module _ (layout : Shape) (n : Node) (x : NodeMemory) (rest : Rest) (i j : ℕ) (ms : List Message) where
-  row_spends : (o : Option Row)
-      → Spends n.counts (by_row_or layout n o).node.counts rest.counts
+  row_spends : (o : Option Row) → Spends n.counts (by_row_or layout n o).node.counts rest.counts
       (took layout x rest i j ms o).rest.counts
   row_spends None = spends_none n.counts rest.counts
   row_spends (Some (AtHome b row)) = record {
@@ -271,36 +227,16 @@ module _ (layout : Shape) (n : Node) (x : NodeMemory) (rest : Rest) (i j : ℕ) 
     sends_too = refl;
   }
 
-  message_spends : (m : Message)
-      → Spends n.counts (handled layout n j m).node.counts rest.counts
+  message_spends : (m : Message) → Spends n.counts (handled layout n j m).node.counts rest.counts
       (took layout x rest i j ms (row_of layout n.me (holding layout n) j m)).rest.counts
   message_spends Bye = spends_none n.counts rest.counts
-  message_spends (Read b buf) = row_spends (row_of layout n.me (holding layout n) j (Read b buf))
-  message_spends (Write b buf) =
-      row_spends (row_of layout n.me (holding layout n) j (Write b buf))
-  message_spends (FwdRead b r buf) =
-      row_spends (row_of layout n.me (holding layout n) j (FwdRead b r buf))
-  message_spends (FwdWrite b r k buf) =
-      row_spends (row_of layout n.me (holding layout n) j (FwdWrite b r k buf))
-  message_spends (Inval b r) = row_spends (row_of layout n.me (holding layout n) j (Inval b r))
-  message_spends (Data b k buf) =
-      row_spends (row_of layout n.me (holding layout n) j (Data b k buf))
-  message_spends (Grant b k buf) =
-      row_spends (row_of layout n.me (holding layout n) j (Grant b k buf))
-  message_spends (Ack b) = row_spends (row_of layout n.me (holding layout n) j (Ack b))
-  message_spends (Done b) = row_spends (row_of layout n.me (holding layout n) j (Done b))
+  message_spends other = row_spends (row_of layout n.me (holding layout n) j other)
 
 resumed_spends : (work : Work) (n : Node) (phase : Phase) (k : Counts)
     → Spends n.counts (resumed work n phase).counts k k
-resumed_spends work n Running k = spends_none n.counts k
-resumed_spends work n Resumed k = spends_none n.counts k
-resumed_spends work n (Ended end) k = spends_none n.counts k
-resumed_spends work n (Waiting resume) k =
-    let on = goes_on_from work n resume in
-    (elim (has_no_wait work.layout n) as (λ z. Spends n.counts (cond z on n).counts k k) [
-      | true ↦ tally_spends (tally_resumed n.local resume) n.counts k
-      | false ↦ spends_none n.counts k
-    ])
+resumed_spends work n phase k =
+    resumed_is work n (λ m. Spends n.counts m.counts k k) (spends_none n.counts k)
+    (λ resume. tally_spends (tally_resumed n.local resume) n.counts k) phase
 
 none_total : (n : ℕ) → total (λ x. 0) n ≡ 0
 none_total zero = refl
@@ -313,8 +249,7 @@ sum_is_total f g (suc n) =
     let rest = sum_is_total f g n in
     let one : n + 1 ≡ suc n = omega arith in
     ap (λ k. sum_by f (map g (range_with_len 0 k))) (sym one)
-    ∙ sum_by-map-range_with_len_more f g 0 n n (omega arith)
-    ∙ ap (λ k. k + f (g n)) rest
+    ∙ sum_by-map-range_with_len_more f g 0 n n (omega arith) ∙ ap (λ k. k + f (g n)) rest
 
 module _ (work : Work) (plan : List PlanEntry) (lay : Layout work)
     (code : CodeSide work.layout work plan) where
@@ -407,8 +342,7 @@ module _ (work : Work) (plan : List PlanEntry) (lay : Layout work)
       (counts_of_word work plan lay code m.counts c i) may.0 (word_spends c s m i may.0 runs) h
   paid_event c s m h (Take i j) may = go (c.list j i) refl
     where
-      go : (xs : List Wire) → c.list j i ≡ xs
-          → IsPaid (take_first work c i j (c.list j i)).nodes
+      go : (xs : List Wire) → c.list j i ≡ xs → IsPaid (take_first work c i j (c.list j i)).nodes
           (counts_of_take work plan lay code m.counts c i j)
       go [] e = absurd (may.3 e)
       go (wire ∷ ws) e = subst (λ xs. IsPaid (take_first work c i j xs).nodes

@@ -3,14 +3,7 @@
 use Rattle.std.proofs.Common.{◌≡◌, ℕ, zero, suc, ◌<◌, ◌⊎◌, cond, eqb, Bool, true, false, List, [], ◌∷◌, ◌++◌, refl, sym, ap, ◌∙◌, subst, inl, inr, arith}
 use Rattle.std.specs.Prelude.{◌||◌}
 use Rattle.std.proofs.lemmas.Bool.Decides.{eqb_tells, nat_tests}
-use Rattle.home_directory.specs.dsm_messages.declared.messages.Message.TheVariants.{Bye}
-use Rattle.home_directory.specs.dsm_messages.declared.messages.Post.{Post}
-use Rattle.home_directory.specs.dsm_messages.declared.messages.Wire.{Wire}
-use Rattle.home_directory.specs.Home.{post}
-use Rattle.dsm_protocol.specs.miss_handlers.Rows.{is_bye}
-use Rattle.dsm_protocol.specs.Holds.{NoneIs}
-use Rattle.dsm_protocol.specs.node_model.Turns.{Turn, byes_to, is_ended}
-use Rattle.dsm_protocol.specs.node_model.Core.{Core, wires_to, with_turn}
+use Rattle.rewriting_law.proofs.Names.{Bye, Post, Wire, post, is_bye, NoneIs, Turn, byes_to, is_ended, Core, wires_to, with_turn}
 use Rattle.rewriting_law.proofs.templates.RegisterLemmas.{equal}
 use Rattle.rewriting_law.proofs.one_memory.Sharing.{is_same}
 
@@ -182,8 +175,7 @@ module _ (nodes : ℕ) (c : Core) (i : ℕ) (list : ℕ → ℕ → List Wire) (
         | false ↦ (λ u. e)
       ]) refl
 
-  ended_there : (x : ℕ) → x ≡ i → is_ended t.node.phase ≡ true
-      → is_ended (c'.nodes x).phase ≡ true
+  ended_there : (x : ℕ) → x ≡ i → is_ended t.node.phase ≡ true → is_ended (c'.nodes x).phase ≡ true
   ended_there x is e = ap (λ z. is_ended (cond z t.node (c.nodes x)).phase) (equal x i is) ∙ e
 
   abbrev HasTold : (x y : ℕ) → Type 0
@@ -200,8 +192,7 @@ module _ (nodes : ℕ) (c : Core) (i : ℕ) (list : ℕ → ℕ → List Wire) (
   byes_there : (x y : ℕ) → y ≡ i → t.node.byes x ≡ true → (c'.nodes y).byes x ≡ true
   byes_there x y is e = ap (λ z. (cond z t.node (c.nodes y)).byes x) (equal y i is) ∙ e
 
-  still_told : (x y : ℕ) → ((c.nodes y).byes x ≡ true) ⊎ (has_bye (c.list x y) ≡ true)
-      → HasTold x y
+  still_told : (x y : ℕ) → ((c.nodes y).byes x ≡ true) ⊎ (has_bye (c.list x y) ≡ true) → HasTold x y
   still_told x y (inl e) = inl ((elim (eqb y i) as (λ z. eqb y i ≡ z
       → (cond z t.node (c.nodes y)).byes x ≡ true) [
         | true ↦ (λ u. p.kept x (ap (λ k. (c.nodes k).byes x) (sym (is_same y i u)) ∙ e))

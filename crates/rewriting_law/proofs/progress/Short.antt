@@ -2,30 +2,11 @@
 -- wants allow, and its Byes one from each node to each.
 use Rattle.std.proofs.Common.{◌≡◌, ◌≢◌, ℕ, zero, suc, ◌+◌, ◌*◌, ◌<◌, ◌≤◌, cond, Bool, true, false, List, [], ◌∷◌, length, Option, Some, None, refl, sym, ap, ◌∙◌, subst, inl, inr, arith}
 use Rattle.std.specs.Prelude.{not, ◌&&◌}
-use Rattle.block_layout.specs.Layout.{Shape}
-use Rattle.block_layout.specs.Update.{changed}
-use Rattle.home_directory.specs.dsm_messages.declared.messages.Message.{Message}
-use Rattle.home_directory.specs.dsm_messages.declared.messages.Wire.{Wire}
-use Rattle.home_directory.specs.Home.{count_of}
-use Rattle.home_directory.specs.Table.{Miss}
-use Rattle.dsm_protocol.specs.miss_handlers.Rows.{Row, AtHome, AtNode, row_of, is_bye}
-use Rattle.rv32_step.specs.OneMemory.{Processor, State, opening, run}
-use Rattle.templates.specs.declared.commits.CommitKind.{CommitKind}
-use Rattle.templates.specs.declared.plans.PlanEntry.{PlanEntry}
-use Rattle.templates.specs.Commits.{commit_at}
-use Rattle.dsm_protocol.specs.jump_map.Maps.{old_of}
+use Rattle.rewriting_law.proofs.Names.{Shape, changed, Message, Wire, count_of, Miss, Row, AtHome, AtNode, row_of, is_bye, Processor, State, opening, run, CommitKind, PlanEntry, commit_at, old_of, is_for_home, Work, Node, NodeMemory, Want, Move, Waits, Leaves, WordOutcome, Phase, word_outcome, Turn, holding, wants_of, after_word, after_wants, word_turn, is_ended, handled, resumed, journaled, after_message, take_turn, each_block_once, Core, Event, Exec, Take, May, IsCoreRun, opening_core, take_first, event_step, after, messages_of, most_events, picks_at, original_by_node}
 use Rattle.dsm_protocol.specs.Events.{row_of as row_at}
-use Rattle.dsm_protocol.specs.Holds.{is_for_home}
 use Rattle.dsm_protocol.proofs.Counting.{count_one}
 use Rattle.dsm_protocol.proofs.Promised.{proper}
 use Rattle.dsm_protocol.proofs.ProtocolSide as world
-use Rattle.dsm_protocol.specs.node_model.Node.{Work, Node, NodeMemory, Want, Move, Next, Again, To, Enters, Waits, Leaves, WordOutcome, Phase, Running, Resumed, Waiting, Ended, word_outcome}
-use Rattle.dsm_protocol.specs.node_model.Turns.{Turn, holding, wants_of, after_word, after_wants, word_turn, is_ended, handled, has_no_wait, resumed, journaled, after_message, take_turn, each_block_once}
-use Rattle.dsm_protocol.specs.node_model.Core.{Core, Event, Exec, Take, May, IsCoreRun, opening_core, take_first, event_step, after}
-use Rattle.rewriting_law.specs.ProtocolLists.{messages_of}
-use Rattle.rewriting_law.specs.Bounds.{most_events}
-use Rattle.rewriting_law.specs.CoreRun.{picks_at}
-use Rattle.rewriting_law.specs.Interleaving.{original_by_node}
 use Rattle.rewriting_law.proofs.templates.RegisterLemmas.{equal, apart as unlike}
 use Rattle.rewriting_law.proofs.words.CodeSide.{CodeSide, Follows}
 use Rattle.rewriting_law.proofs.one_memory.Matching.{Runs}
@@ -35,7 +16,7 @@ use Rattle.rewriting_law.proofs.protocol_side.Spending.{Counts, no_counts, total
 use Rattle.rewriting_law.proofs.protocol_side.Directory.{Rest, world_of, missed, took, take_from, directory}
 use Rattle.rewriting_law.proofs.protocol_side.DirectorySide.{Layout}
 use Rattle.rewriting_law.proofs.one_memory.Wants.{ask, ask_all}
-use Rattle.rewriting_law.proofs.runs.Turns.{byes_node, wants_same, handled_same, goes_on_from}
+use Rattle.rewriting_law.proofs.runs.Turns.{byes_node, wants_same, handled_same, resumed_is}
 use Rattle.rewriting_law.proofs.runs.TurnTies.{rest_at, locals_of}
 use Rattle.rewriting_law.proofs.runs.Composed.{MatchesCore, counts_of_word, counts_of_take, counts_by, pace_of_word, may_run, next_word, event_leads, start_matches, start_counts}
 use Rattle.rewriting_law.proofs.runs.Alone.{bye_noted}
@@ -101,15 +82,8 @@ took_one layout n rest i j ms (AtNode b row) = refl
 
 pub resumed_executed : (work : Work) (n : Node) (phase : Phase)
     → (resumed work n phase).executed ≡ n.executed
-resumed_executed work n Running = refl
-resumed_executed work n Resumed = refl
-resumed_executed work n (Ended end) = refl
-resumed_executed work n (Waiting resume) =
-    let on = goes_on_from work n resume in
-    (elim (has_no_wait work.layout n) as (λ z. (cond z on n).executed ≡ n.executed) [
-      | true ↦ refl
-      | false ↦ refl
-    ])
+resumed_executed work n =
+    resumed_is work n (λ m. m.executed ≡ n.executed) refl (λ resume. refl)
 
 -- a Bye at the head of a list wasn't taken before
 pub bye_ahead : (taken : Bool) (wire : Wire) (ws : List Wire) → is_bye wire.message ≡ true
@@ -150,10 +124,7 @@ module _ (work : Work) (plan : List PlanEntry) (lay : Layout work)
         → length (each_block_once layout (wants_of mv)) ≤ 2
     few_wanted q r kind (Leaves e) f = omega arith
     few_wanted q r kind (Waits resume want more) f = f.1.few
-    few_wanted q r kind Next f = omega arith
-    few_wanted q r kind Again f = omega arith
-    few_wanted q r kind (To target) f = omega arith
-    few_wanted q r kind (Enters target) f = omega arith
+    few_wanted q r kind other f = omega arith
 
     short_word : m.doing i ≡ Runs
         → IsShort (event_step work c (Exec i)) (counts_of_word work plan lay code m.counts c i)
@@ -225,12 +196,10 @@ module _ (work : Work) (plan : List PlanEntry) (lay : Layout work)
 
       then_counts : ((counts_then (wire ∷ ws)).asked ≡ m.counts.asked)
           × (m.counts.taken ≤ (counts_then (wire ∷ ws)).taken)
-      then_counts =
-          took_counts layout n.local (rest_at m.counts c) i j (messages_of ws) row_there
+      then_counts = took_counts layout n.local (rest_at m.counts c) i j (messages_of ws) row_there
 
       -- the message is counted, or it is a Bye
-      bye_or_row : (b : Bool) → is_bye wire.message ≡ b
-          → (d : ℕ) × (byes_at u.node ≡ byes_at n + d)
+      bye_or_row : (b : Bool) → is_bye wire.message ≡ b → (d : ℕ) × (byes_at u.node ≡ byes_at n + d)
           × (m.counts.taken + 1 ≤ (counts_then (wire ∷ ws)).taken + d)
       bye_or_row true bye =
           let old : n.byes j ≡ false = bye_ahead (n.byes j) wire ws bye
@@ -278,8 +247,7 @@ module _ (work : Work) (plan : List PlanEntry) (lay : Layout work)
         (made + 1)
     short_take j lj calm some = go (c.list j i) refl
       where
-        go : (xs : List Wire) → c.list j i ≡ xs
-            → IsShort (event_step work c (Take i j))
+        go : (xs : List Wire) → c.list j i ≡ xs → IsShort (event_step work c (Take i j))
             (counts_of_take work plan lay code m.counts c i j) (made + 1)
         go [] e = absurd (some e)
         go (wire ∷ ws) e = subst (λ xs. IsShort (take_first work c i j xs)
@@ -293,8 +261,7 @@ module _ (work : Work) (plan : List PlanEntry) (lay : Layout work)
       short_word c s m made h i may.0
       (may_run work plan lay code (c.nodes i) (m.doing i) (c.nodes i).phase (m.phases i may.0)
       may.1)
-  short_event c s m made h calm (Take i j) may =
-      short_take c s m made h i may.0 j may.1 calm may.3
+  short_event c s m made h calm (Take i j) may = short_take c s m made h i may.0 j may.1 calm may.3
 
   -- 4. A run
 
@@ -318,8 +285,7 @@ module _ (work : Work) (plan : List PlanEntry) (lay : Layout work)
       subst (Behind (after work d es))
       (let same : made + 1 + length es ≡ made + suc (length es) = omega arith in same)
       (after_run es d (run (original_by_node work) s (picks_at work plan c e)) leads.behind
-      (made + 1)
-      (subst (λ k. IsShort d k (made + 1)) (sym leads.counted)
+      (made + 1) (subst (λ k. IsShort d k (made + 1)) (sym leads.counted)
       (short_event c s m made h f.calm e may.0))
       (event_closing work plan lay code c s m f e may.0) may.1)
 

@@ -3,18 +3,7 @@ use Rattle.std.proofs.Common.{◌≡◌, ℕ, ◌+◌, ◌*◌, ◌/◌, ◌<◌
 use Rattle.std.specs.Prelude.{not, ◌&&◌}
 use Rattle.std.proofs.lemmas.Bool.Decides.{eqb_tells}
 use Rattle.std.proofs.lemmas.List.Sums.{sum_by-append}
-use Rattle.block_layout.specs.Layout.{Shape, has_line}
-use Rattle.rv32_program.specs.declared.End.TheVariants.{Exited, Stopped}
-use Rattle.rv32_program.specs.Program.{line_of}
-use Rattle.rv32_step.specs.OneMemory.{Step, Break, State, is_of, opening, run}
-use Rattle.home_directory.specs.dsm_messages.declared.messages.Wire.{Wire}
-use Rattle.templates.specs.declared.plans.PlanEntry.{PlanEntry}
-use Rattle.dsm_protocol.specs.node_model.Node.{Work, Node, Running, Resumed, Waiting, Ended, word_outcome}
-use Rattle.dsm_protocol.specs.node_model.Turns.{is_ended, wants_of, after_word, after_wants, word_turn, handled, journaled, after_message, take_turn, each_block_once}
-use Rattle.dsm_protocol.specs.node_model.Core.{Core, Event, Exec, Take, IsCoreRun, opening_core, take_first, event_step, after}
-use Rattle.rewriting_law.specs.Bounds.{steps_of}
-use Rattle.rewriting_law.specs.CoreRun.{Order, break_by, order_of, commits, picks_of_take, picks_at, picks_of}
-use Rattle.rewriting_law.specs.Interleaving.{original_by_node}
+use Rattle.rewriting_law.proofs.Names.{Shape, has_line, Exited, Stopped, line_of, Step, Break, State, is_of, opening, run, Wire, PlanEntry, Work, Node, Running, Resumed, Waiting, Ended, word_outcome, is_ended, wants_of, after_word, after_wants, word_turn, handled, journaled, after_message, take_turn, each_block_once, Core, Event, Exec, Take, IsCoreRun, opening_core, take_first, event_step, after, steps_of, Order, break_by, order_of, commits, picks_of_take, picks_at, picks_of, original_by_node}
 use Rattle.rewriting_law.proofs.templates.RegisterLemmas.{equal}
 use Rattle.rewriting_law.proofs.words.CodeSide.{Pace, one_if, CodeSide}
 use Rattle.rewriting_law.proofs.one_memory.Matching.{Activity, Runs, Awaits, HasEnded, StandsIn, with_at}

@@ -1,12 +1,8 @@
 -- A node is stopped by its budget alone.
 use Rattle.std.proofs.Common.{◌≡◌, ℕ, ◌+◌, cond, eqb, Bool, true, false, List, [], ◌∷◌, sym, ap, ◌∙◌, refl, subst, inl, inr}
 use Rattle.std.proofs.lemmas.Bool.Decides.{eqb_tells}
-use Rattle.rv32_program.specs.declared.End.TheVariants.{Stopped}
-use Rattle.home_directory.specs.dsm_messages.declared.messages.Wire.{Wire}
-use Rattle.dsm_protocol.specs.node_model.Node.{Work, Node, Move, Next, Again, To, Enters, Waits, Leaves, Phase, Running, Resumed, Waiting, Ended, phase_after, stop_or, word_outcome}
-use Rattle.dsm_protocol.specs.node_model.Turns.{is_ended, after_word, after_wants, wants_of, handled, has_no_wait, resumed, journaled, word_turn, after_message, take_turn, each_block_once}
-use Rattle.dsm_protocol.specs.node_model.Core.{Core, Event, Exec, Take, take_first, event_step, after}
-use Rattle.rewriting_law.proofs.runs.Turns.{byes_node, wants_same, handled_same, goes_on_from}
+use Rattle.rewriting_law.proofs.Names.{Stopped, Wire, Work, Node, Move, Waits, Leaves, Phase, Running, Resumed, Ended, phase_after, stop_or, word_outcome, is_ended, after_word, after_wants, wants_of, handled, resumed, journaled, word_turn, after_message, take_turn, each_block_once, Core, Event, Exec, Take, take_first, event_step, after}
+use Rattle.rewriting_law.proofs.runs.Turns.{byes_node, wants_same, handled_same, resumed_is}
 
 -- a node that is stopped has executed its whole budget
 abbrev pub IsWhole : ℕ → ℕ → Phase → Type 0
@@ -34,13 +30,7 @@ move_is_whole : (budget executed : ℕ) (m : Move)
     → IsWhole budget executed (phase_after budget executed m)
 move_is_whole budget executed (Leaves e) b h = cc
 move_is_whole budget executed (Waits resume want more) b h = cc
-move_is_whole budget executed Next b h =
-    stop_is_whole budget executed Running (runs_whole budget executed) b h
-move_is_whole budget executed Again b h =
-    stop_is_whole budget executed Running (runs_whole budget executed) b h
-move_is_whole budget executed (To address) b h =
-    stop_is_whole budget executed Running (runs_whole budget executed) b h
-move_is_whole budget executed (Enters original) b h =
+move_is_whole budget executed other b h =
     stop_is_whole budget executed Running (runs_whole budget executed) b h
 
 module _ (work : Work) where
@@ -67,14 +57,10 @@ module _ (work : Work) where
   -- a message
   goes_whole : (n : Node) (phase : Phase) → n.phase ≡ phase → IsWholeNode n
       → IsWholeNode (resumed work n phase)
-  goes_whole n Running is h = h
-  goes_whole n Resumed is h = h
-  goes_whole n (Ended end) is h = h
-  goes_whole n (Waiting resume) is h = go (has_no_wait work.layout n)
-    where
-      go : (none : Bool) → IsWholeNode (cond none (goes_on_from work n resume) n)
-      go true = stop_is_whole work.budget n.executed Resumed (resumed_whole work.budget n.executed)
-      go false = h
+  goes_whole n phase is h =
+      resumed_is work n IsWholeNode h
+      (λ resume. stop_is_whole work.budget n.executed Resumed (resumed_whole work.budget n.executed))
+      phase
 
   message_whole : (n : Node) (j : ℕ) (wire : Wire) → IsWholeNode n
       → IsWholeNode (take_turn work n j wire).node

@@ -3,24 +3,9 @@ use Rattle.std.proofs.Common.{◌≡◌, ◌≢◌, ℕ, zero, suc, ◌+◌, ◌
 use Rattle.std.specs.Prelude.{not}
 use Rattle.std.specs.Option.{option_map_or}
 use Rattle.std.proofs.lemmas.Bool.Decides.{eqb_tells, nat_tests}
-use Rattle.block_layout.specs.Layout.{Shape, blocks}
-use Rattle.home_directory.specs.dsm_messages.declared.messages.Need.{Need}
-use Rattle.home_directory.specs.declared.wait.Wait.{Wait}
-use Rattle.home_directory.specs.Home.{count_of}
-use Rattle.rv32_program.specs.declared.End.{End}
-use Rattle.rv32_program.specs.Program.{line_of}
-use Rattle.rv32_step.specs.Breaks.{is_in_block}
-use Rattle.rv32_step.specs.OneMemory.{State, opening, run}
-use Rattle.templates.specs.declared.plans.PlanEntry.{PlanEntry}
-use Rattle.dsm_protocol.specs.Holds.{wanted, has_message}
+use Rattle.rewriting_law.proofs.Names.{Shape, blocks, Need, Wait, count_of, End, line_of, is_in_block, State, opening, run, PlanEntry, wanted, has_message, Work, Node, Resume, Phase, Running, Resumed, Waiting, Ended, is_at_poll, has_all_byes, standing_in, standing_of, is_ended, Core, Event, Exec, Take, May, IsCoreRun, may_execute, may_take, opening_core, event_step, after, messages_of, picks_at, original_by_node, HaveRows}
 use Rattle.dsm_protocol.proofs.ProtocolSide as world
 use Rattle.dsm_protocol.specs.node_model.declared.Standing.TheVariants as standing
-use Rattle.dsm_protocol.specs.node_model.Node.{Work, Node, Resume, Phase, Running, Resumed, Waiting, Ended, is_at_poll, has_all_byes, standing_in, standing_of}
-use Rattle.dsm_protocol.specs.node_model.Turns.{is_ended}
-use Rattle.dsm_protocol.specs.node_model.Core.{Core, Event, Exec, Take, May, IsCoreRun, may_execute, may_take, opening_core, event_step, after}
-use Rattle.rewriting_law.specs.ProtocolLists.{messages_of}
-use Rattle.rewriting_law.specs.CoreRun.{picks_at}
-use Rattle.rewriting_law.specs.Interleaving.{original_by_node, HaveRows}
 use Rattle.rewriting_law.proofs.words.CodeSide.{CodeSide}
 use Rattle.rewriting_law.proofs.one_memory.Sharing.{is_same}
 use Rattle.rewriting_law.proofs.templates.RegisterLemmas.{equal}
@@ -41,8 +26,7 @@ pub search : (f : ℕ → Bool) (n : ℕ) → ((k : ℕ) × (k < n) × (f k ≡ 
 search f zero = inr (λ k low. absurd (omega (arith, low)))
 search f (suc n) = go (f n) refl (search f n)
   where
-    go : (t : Bool) → f n ≡ t
-        → ((k : ℕ) × (k < n) × (f k ≡ true)) ⊎ ((k : ℕ) → k < n → f k ≡ false)
+    go : (t : Bool) → f n ≡ t → ((k : ℕ) × (k < n) × (f k ≡ true)) ⊎ ((k : ℕ) → k < n → f k ≡ false)
         → ((k : ℕ) × (k < suc n) × (f k ≡ true)) ⊎ ((k : ℕ) → k < suc n → f k ≡ false)
     go true e rest = inl (n, omega arith, e)
     go false e (inl r) = let low = r.1 in inl (r.0, omega (arith, low), r.2)
@@ -94,8 +78,7 @@ module _ (work : Work) (plan : List PlanEntry) (lay : Layout work)
     abbrev IsIdle : ℕ → Type 0
     IsIdle k = may_execute (standing_of work (c.nodes k)) ≡ false
 
-    at_poll_or_not : (poll : Bool)
-        → may_execute (cond poll standing.AtPoll standing.Running) ≡ true
+    at_poll_or_not : (poll : Bool) → may_execute (cond poll standing.AtPoll standing.Running) ≡ true
     at_poll_or_not true = refl
     at_poll_or_not false = refl
 
@@ -106,10 +89,6 @@ module _ (work : Work) (plan : List PlanEntry) (lay : Layout work)
     idle_phase n Resumed e = let bad : true ≡ false = e in cc
     idle_phase n (Waiting resume) e = inl (resume, refl)
     idle_phase n (Ended end) e = inr (end, refl)
-
-    waits_there : Phase → Bool
-    waits_there (Waiting resume) = true
-    waits_there p = false
 
     takes_waiting : (i j : ℕ) (resume : Resume) → i < layout.nodes → j < layout.nodes
         → (c.nodes i).phase ≡ Waiting resume → c.list j i ≢ [] → (e : Event) × May work c e
@@ -131,15 +110,10 @@ module _ (work : Work) (plan : List PlanEntry) (lay : Layout work)
     )
 
     -- some node waits
-    awaits : (k : ℕ) → k < layout.nodes → (resume : Resume)
-        → (c.nodes k).phase ≡ Waiting resume
+    awaits : (k : ℕ) → k < layout.nodes → (resume : Resume) → (c.nodes k).phase ≡ Waiting resume
         → (b : ℕ) × (b < blocks layout) × ((c.nodes k).wait b ≢ None)
     awaits k low resume is = go (m.doing k) refl (m.phases k low)
       where
-        unlike : Phase → Bool
-        unlike (Waiting resume) = true
-        unlike p = false
-
         waits : (o : Option Wait) (want : Need) → wanted o ≡ Some want → o ≢ None
         waits None want e gone = let bad : None ≡ Some want = e in cc
         waits (Some x) want e gone = let bad : Some x ≡ None = gone in cc
@@ -166,8 +140,7 @@ module _ (work : Work) (plan : List PlanEntry) (lay : Layout work)
             )
 
     -- where a node waits, some list isn't empty
-    some_list : (k : ℕ) → k < layout.nodes → (resume : Resume)
-        → (c.nodes k).phase ≡ Waiting resume
+    some_list : (k : ℕ) → k < layout.nodes → (resume : Resume) → (c.nodes k).phase ≡ Waiting resume
         → (x : ℕ) × (y : ℕ) × (x < layout.nodes) × (y < layout.nodes) × (c.list x y ≢ [])
     some_list k low resume is =
         let w = awaits k low resume is in
@@ -227,8 +200,7 @@ module _ (work : Work) (plan : List PlanEntry) (lay : Layout work)
         go true e found = absurd (more (ap (standing_in work (c.nodes i)) is
             ∙ ap (λ z. cond z standing.Over standing.Ended) e))
         go false e (inl x) =
-            takes_ended i x.0 end low x.1 is e
-            (told x.0 x.2 (f.told x.0 i x.1 low (all x.0 x.1)))
+            takes_ended i x.0 end low x.1 is e (told x.0 x.2 (f.told x.0 i x.1 low (all x.0 x.1)))
         go false e (inr none) =
             let full = count_all (c.nodes i).byes layout.nodes
             (λ x lx. noted ((c.nodes i).byes x) (none x lx)) in
@@ -244,9 +216,6 @@ module _ (work : Work) (plan : List PlanEntry) (lay : Layout work)
               (search (λ k. not (is_ended (c.nodes k).phase)) layout.nodes)
         ]
       where
-        other_phase : (p : Phase) (resume : Resume) → p ≡ Waiting resume → is_ended p ≡ false
-        other_phase p resume e = ap is_ended e
-
         ended_all : (b : Bool) → not b ≡ false → b ≡ true
         ended_all true e = refl
         ended_all false e = let bad : true ≡ false = e in cc
@@ -258,8 +227,7 @@ module _ (work : Work) (plan : List PlanEntry) (lay : Layout work)
         idle_event idle (inl k) =
             elim (idle_phase (c.nodes k.0) (c.nodes k.0).phase (idle k.0 k.1)) [
               | inl h ↦ waiting_moves idle k.0 k.1 h.0 h.1
-              | inr h ↦ (let bad : false ≡ true =
-                  sym (ap (λ p. not (is_ended p)) h.1) ∙ k.2 in cc)
+              | inr h ↦ (let bad : false ≡ true = sym (ap (λ p. not (is_ended p)) h.1) ∙ k.2 in cc)
             ]
         idle_event idle (inr none) =
             elim (idle_phase (c.nodes i) (c.nodes i).phase (idle i low)) [
@@ -322,8 +290,7 @@ module _ (work : Work) (plan : List PlanEntry) (lay : Layout work)
   after_run (e ∷ es) c s m f may =
       after_run es (event_step work c e) (run (original_by_node work) s (picks_at work plan c e))
       (event_leads work plan lay code c s m e may.0).0.behind
-      (event_closing work plan lay code c s m f e may.0)
-      may.1
+      (event_closing work plan lay code c s m f e may.0) may.1
 
   module _ (es : List Event) (may : IsCoreRun work (opening_core work) es) where
     abbrev end_core : Core
@@ -353,6 +320,5 @@ module _ (work : Work) (plan : List PlanEntry) (lay : Layout work)
     pub rows : HaveRows work end_core
     rows i j wire ws li lj front plain =
         let r = row_there work plan lay code end_core behind.state behind.matches
-        behind.closing.farewells i li j lj wire ws
-        front plain in
+        behind.closing.farewells i li j lj wire ws front plain in
         (r.0, r.1)

@@ -1,38 +1,24 @@
 -- The state bytes of a node's lines, and the bytes of its copy, by block.
 use Rattle.std.proofs.Common.{◌≡◌, ℕ, ◌<◌, true, false, cond, eqb, Some, None, refl, sym, ap, ◌∙◌, inl, inr, arith}
 use Rattle.std.proofs.lemmas.Bool.Decides.{eqb_tells, nat_tests}
-use Rattle.block_layout.specs.Layout.{Shape, IsValid, blocks, lines, first_line, block_of, has_line}
-use Rattle.block_layout.specs.Update.{changed}
+use Rattle.rewriting_law.proofs.Names.{Shape, IsValid, blocks, lines, first_line, block_of, has_line, changed, Exclusive, byte_of, state_with, can_read, can_write, Need, meets, Program, first_state, is_readable_state, is_writable_state, with_state}
 use Rattle.state_table.specs.declared.State.{State}
-use Rattle.state_table.specs.declared.State.TheVariants.{Exclusive, Shared, Invalid, Pending}
-use Rattle.state_table.specs.StateByte.{byte_of, state_with, can_read, can_write}
-use Rattle.home_directory.specs.dsm_messages.declared.messages.Need.{Need}
 use Rattle.home_directory.specs.dsm_messages.declared.messages.Need.TheVariants as want
-use Rattle.home_directory.specs.Table.{meets}
-use Rattle.rv32_program.specs.Program.{Program}
 use Rattle.dsm_protocol.proofs.Openings.{LineLaws}
-use Rattle.dsm_protocol.specs.node_model.Node.{first_state, is_readable_state, is_writable_state}
-use Rattle.dsm_protocol.specs.node_model.Turns.{with_state}
 use Rattle.rewriting_law.proofs.templates.States.{grants}
 
 -- a state's byte
 pub state_of_byte : (s : State) → state_with (byte_of s) ≡ s
 state_of_byte Exclusive = refl
-state_of_byte Shared = refl
-state_of_byte Invalid = refl
-state_of_byte Pending = refl
+state_of_byte other = refl
 
 pub readable_byte : (s : State) → is_readable_state (byte_of s) ≡ can_read s
 readable_byte Exclusive = refl
-readable_byte Shared = refl
-readable_byte Invalid = refl
-readable_byte Pending = refl
+readable_byte other = refl
 
 pub writable_byte : (s : State) → is_writable_state (byte_of s) ≡ can_write s
 writable_byte Exclusive = refl
-writable_byte Shared = refl
-writable_byte Invalid = refl
-writable_byte Pending = refl
+writable_byte other = refl
 
 pub grants_byte : (need : Need) (s : State) → grants need (byte_of s) ≡ meets need s
 grants_byte want.Read s = readable_byte s
@@ -114,16 +100,14 @@ module _ (laws : LineLaws) (layout : Shape) (valid : IsValid layout)
         let there = state_put b s states below d low in
         (elim (eqb d b) as (λ t. has_line layout b line ≡ t
         → state_with (with_state layout b s states (first_line layout d))
-        ≡ cond t s (state_with (states (first_line layout d)))
-        → with_state layout b s states line
+        ≡ cond t s (state_with (states (first_line layout d))) → with_state layout b s states line
         ≡ byte_of (state_with (with_state layout b s states (first_line layout d)))) [
           | true ↦ (λ t u. ap (λ z. cond z (byte_of s) (states line)) t ∙ ap byte_of (sym u))
           | false ↦ (λ t u. ap (λ z. cond z (byte_of s) (states line)) t ∙ f.block line d e
               ∙ ap byte_of (sym u))
         ]) is there;
     alone = λ line e.
-        ap (λ z. cond z (byte_of s) (states line)) (line_of_none line b e below)
-        ∙ f.alone line e;
+        ap (λ z. cond z (byte_of s) (states line)) (line_of_none line b e below) ∙ f.alone line e;
   }
 
   -- what a line's byte says

@@ -3,11 +3,7 @@ use Rattle.std.proofs.Common.{◌≡◌, ◌≢◌, ℕ, zero, suc, ◌+◌, ◌
 use Rattle.std.specs.Prelude.{is_some}
 use Rattle.std.specs.Option.{option_map_or}
 use Rattle.std.proofs.lemmas.Bool.Decides.{eqb_tells, nat_tests}
-use Rattle.block_layout.specs.Layout.{Shape, blocks, block_of}
-use Rattle.home_directory.specs.Home.{count_of}
-use Rattle.rv32_program.specs.Program.{line_of}
-use Rattle.rv32_step.specs.Breaks.{is_in_block}
-use Rattle.dsm_protocol.specs.node_model.Node.{Want}
+use Rattle.rewriting_law.proofs.Names.{Shape, blocks, block_of, count_of, line_of, is_in_block, Want}
 use Rattle.rewriting_law.proofs.one_memory.Sharing.{is_same}
 use Rattle.rewriting_law.proofs.one_memory.Pending.{wanted_in}
 
@@ -56,8 +52,7 @@ module _ (layout : Shape) where
       + count_of (λ b. is_in_block layout b x.at) n
   one_more x ws zero = omega arith
   one_more x ws (suc n) =
-      go (is_in_block layout n x.at) (is_some (wanted_in layout n ws)) (one_more x ws n) refl
-      refl
+      go (is_in_block layout n x.at) (is_some (wanted_in layout n ws)) (one_more x ws n) refl refl
     where
       big : ℕ
       big = count_of (λ b. is_some (wanted_in layout b (x ∷ ws))) n

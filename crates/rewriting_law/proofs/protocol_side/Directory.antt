@@ -1,26 +1,11 @@
 -- The directory protocol beside what words see of the nodes: what the nodes keep for it, and what a
 -- want and a message change of that.
 use Rattle.std.specs.Prelude.{ℕ, Bool, true, false, if◌then◌else◌, List, [], ◌∷◌, length, Option, Some, None}
-use Rattle.block_layout.specs.Layout.{Shape, first_line}
-use Rattle.block_layout.specs.Update.{changed}
-use Rattle.buf_pool.specs.Pool.{empty_buffer}
-use Rattle.llsc.specs.Reservation.{cleared}
-use Rattle.state_table.specs.StateByte.{state_with}
-use Rattle.home_directory.specs.dsm_messages.declared.messages.Need.{Need}
-use Rattle.home_directory.specs.dsm_messages.declared.messages.Message.{Message}
-use Rattle.home_directory.specs.declared.wait.Wait.{Wait}
+use Rattle.rewriting_law.proofs.Names.{Shape, first_line, changed, empty_buffer, cleared, state_with, Need, Message, Wait, DirectoryEntry, Miss, want_row, block_facts, Row, AtHome, AtNode, taker_in, World, local_block, with_sends, wanted, NodeMemory, with_state, with_bytes, Order, order_by}
 use Rattle.home_directory.specs.declared.directory.Request.{Request}
-use Rattle.home_directory.specs.Home.{DirectoryEntry}
-use Rattle.home_directory.specs.Table.{Miss, want_row}
-use Rattle.dsm_protocol.specs.miss_handlers.Effects.{block_facts}
-use Rattle.dsm_protocol.specs.miss_handlers.Rows.{Row, AtHome, AtNode, taker_in}
-use Rattle.dsm_protocol.specs.World.{World, local_block, with_list, with_sends}
+use Rattle.dsm_protocol.specs.World.{with_list}
 use Rattle.dsm_protocol.specs.Events.{row_of}
-use Rattle.dsm_protocol.specs.Holds.{wanted}
 use Rattle.dsm_protocol.proofs.ByAddress.{bytes_in}
-use Rattle.dsm_protocol.specs.node_model.Node.{NodeMemory}
-use Rattle.dsm_protocol.specs.node_model.Turns.{with_state, with_bytes}
-use Rattle.rewriting_law.specs.CoreRun.{Order, order_by}
 use Rattle.rewriting_law.proofs.protocol_side.ProtocolSide.{Handled, Protocol}
 use Rattle.rewriting_law.proofs.protocol_side.Spending.{Counts, asks_more, takes_more}
 

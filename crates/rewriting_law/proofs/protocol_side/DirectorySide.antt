@@ -2,45 +2,20 @@
 use Rattle.std.proofs.Common.{◌≡◌, ℕ, ◌-◌, ◌%◌, ◌<◌, Bool, true, false, cond, eqb, List, [], ◌∷◌, ◌++◌, length, get_or, Option, Some, None, refl, sym, ap, ◌∙◌, subst, inl, inr, arith}
 use Rattle.std.specs.Prelude.{is_some, IsSome, ◌&&◌}
 use Rattle.std.proofs.lemmas.Bool.Decides.{nat_tests}
-use Rattle.rv32_decode.specs.Widths.{is_aligned}
+use Rattle.rewriting_law.proofs.Names.{is_aligned, Width, Word, Shape, IsValid, blocks, lines, first_line, block_of, has_line, stored, raw, empty_buffer, byte_of, state_with, can_read, can_write, flag_byte, Need, Message, FwdRead, FwdWrite, Inval, Data, Grant, Ack, Done, Bye, Wait, count_of, Miss, meets, cleared, Row, AtHome, AtNode, block_in, clears, taker_in, is_bye, takes_away, Shared, class_at, line_of, Contents, need_of, most_waits, World, after_miss, IsLaid, size, address_of, store_in, after_row, sends_in, pending, HoldsBy, Holds, wanted, AfterWant, AfterTake, with_state, Work, NodeMemory, Want, is_readable_state, is_writable_state, IsLaidOver, Order, order_by, AreContentsOf}
 use Rattle.rv32_decode.specs.declared.LoadKind.TheVariants.{Word as WordLoad}
-use Rattle.rv32_decode.specs.declared.Width.{Width}
-use Rattle.rv32_decode.specs.declared.Width.TheVariants.{Word}
-use Rattle.block_layout.specs.Layout.{Shape, IsValid, blocks, lines, first_line, block_of, has_line}
-use Rattle.byte_range.specs.Memory.{stored, raw}
-use Rattle.buf_pool.specs.Pool.{empty_buffer}
 use Rattle.state_table.specs.declared.State.{State}
 use Rattle.state_table.specs.declared.State.TheVariants as state
-use Rattle.state_table.specs.StateByte.{byte_of, state_with, can_read, can_write}
-use Rattle.home_directory.specs.flag_memory.Flag.{flag_byte}
-use Rattle.home_directory.specs.dsm_messages.declared.messages.Need.{Need}
 use Rattle.home_directory.specs.dsm_messages.declared.messages.Message.TheVariants as message
-use Rattle.home_directory.specs.dsm_messages.declared.messages.Message.{Message}
-use Rattle.home_directory.specs.dsm_messages.declared.messages.Message.TheVariants.{Read, Write, FwdRead, FwdWrite, Inval, Data, Grant, Ack, Done, Bye}
-use Rattle.home_directory.specs.declared.wait.Wait.{Wait}
-use Rattle.home_directory.specs.Home.{count_of}
-use Rattle.home_directory.specs.Table.{Miss, meets}
-use Rattle.llsc.specs.Reservation.{cleared}
-use Rattle.dsm_protocol.specs.miss_handlers.Rows.{Row, AtHome, AtNode, block_in, clears, taker_in, is_bye, takes_away}
-use Rattle.rv32_program.specs.declared.Class.TheVariants.{Shared}
-use Rattle.rv32_program.specs.Program.{class_at, line_of}
+use Rattle.home_directory.specs.dsm_messages.declared.messages.Message.TheVariants.{Read, Write}
 use Rattle.coherence.specs.Machine.{Event, Want as WantsBlock}
 use Rattle.dsm_protocol.proofs.Counting.{count_alike}
-use Rattle.dsm_protocol.specs.Abstraction.{Contents, need_of, most_waits}
-use Rattle.dsm_protocol.specs.World.{World, after_miss}
-use Rattle.dsm_protocol.specs.Sound.{IsLaid, size}
-use Rattle.dsm_protocol.specs.Memory.{address_of, store_in}
-use Rattle.dsm_protocol.specs.Events.{row_of, after_row, sends_in, pending}
-use Rattle.dsm_protocol.specs.Holds.{HoldsBy, Holds, wanted, AfterWant, AfterTake}
+use Rattle.dsm_protocol.specs.Events.{row_of}
 use Rattle.dsm_protocol.proofs.Openings.{LineLaws}
 use Rattle.dsm_protocol.proofs.Alike.{Alike}
 use Rattle.dsm_protocol.proofs.Promised.{two_of_most}
 use Rattle.dsm_protocol.proofs.ProtocolSide as world
 use Rattle.dsm_protocol.proofs.ByAddress.{byte_of_block, flag_at}
-use Rattle.dsm_protocol.specs.node_model.Turns.{with_state}
-use Rattle.dsm_protocol.specs.node_model.Node.{Work, NodeMemory, Want, is_readable_state, is_writable_state, IsLaidOver}
-use Rattle.rewriting_law.specs.CoreRun.{Order, order_by}
-use Rattle.rewriting_law.specs.ProtocolLists.{AreContentsOf}
 use Rattle.rewriting_law.proofs.templates.States.{Suits, StateFits, first_fits, grants}
 use Rattle.rewriting_law.proofs.templates.Flagged.{extend_word, flag_bytes}
 use Rattle.rewriting_law.proofs.one_memory.Sharing.{with_local, is_same, local_here, load_same}
@@ -97,28 +72,12 @@ taker_ordered (Some x) = Some x.requester
 -- a Bye has no row, and takes no block away
 bye_taker : (m : Message) → is_bye m ≡ true → taker_in m ≡ None
 bye_taker Bye e = refl
-bye_taker (Read b buf) e = absurd cc
-bye_taker (Write b buf) e = absurd cc
-bye_taker (FwdRead b r buf) e = absurd cc
-bye_taker (FwdWrite b r k buf) e = absurd cc
-bye_taker (Inval b r) e = absurd cc
-bye_taker (Data b k buf) e = absurd cc
-bye_taker (Grant b k buf) e = absurd cc
-bye_taker (Ack b) e = absurd cc
-bye_taker (Done b) e = absurd cc
+bye_taker other e = absurd cc
 
 bye_row : (layout : Shape) (w : World) (i j : ℕ) (m : Message) → is_bye m ≡ true
     → row_of layout w i j m ≡ None
 bye_row layout w i j Bye e = refl
-bye_row layout w i j (Read b buf) e = absurd cc
-bye_row layout w i j (Write b buf) e = absurd cc
-bye_row layout w i j (FwdRead b r buf) e = absurd cc
-bye_row layout w i j (FwdWrite b r k buf) e = absurd cc
-bye_row layout w i j (Inval b r) e = absurd cc
-bye_row layout w i j (Data b k buf) e = absurd cc
-bye_row layout w i j (Grant b k buf) e = absurd cc
-bye_row layout w i j (Ack b) e = absurd cc
-bye_row layout w i j (Done b) e = absurd cc
+bye_row layout w i j other e = absurd cc
 
 -- the first of these messages takes something away
 abbrev pub lowers_first : List Message → Bool
@@ -158,10 +117,8 @@ module _ (work : Work) (lay : Layout work) where
       go (Some b) e some = (b, e)
       go None e some = let bad : false ≡ true = sym (ap is_some e) ∙ some in cc
 
-  is_shared_line : (line b : ℕ) → block_of layout line ≡ Some b
-      → work.program.class line ≡ Shared
-  is_shared_line line b e =
-      (lay.over line).1 ((lay.laws.shared layout line).1 (ap is_some e))
+  is_shared_line : (line b : ℕ) → block_of layout line ≡ Some b → work.program.class line ≡ Shared
+  is_shared_line line b e = (lay.over line).1 ((lay.laws.shared layout line).1 (ap is_some e))
 
   pub laid_out : AreLaidOut layout work
   laid_out = record {
@@ -205,8 +162,7 @@ module _ (work : Work) (lay : Layout work) where
       state_fits : (line : ℕ) → StateFits (work.program.class line) ((locals i).state line)
       state_fits line = go (block_of layout line) refl
         where
-          by : (b : ℕ) → block_of layout line ≡ Some b
-              → StateFits Shared ((locals i).state line)
+          by : (b : ℕ) → block_of layout line ≡ Some b → StateFits Shared ((locals i).state line)
           by b e = fits_state ((locals i).state line) (w.state i b) ((h.fits i low).block line b e)
 
           go : (o : Option ℕ) → block_of layout line ≡ o
@@ -229,12 +185,10 @@ module _ (work : Work) (lay : Layout work) where
           let last = within.1 in
           let k = a - address_of layout b in
           let flags_are = world.flagged lay.laws layout lay.valid lay.laid w memory h.holds i b low
-          below
-          (sym (readable_line lay.laws layout lay.valid lay.some work.program (locals i).state
+          below (sym (readable_line lay.laws layout lay.valid lay.some work.program (locals i).state
           (h.fits i low) (line_of a) b e) ∙ unreadable) in
           sym (copy_byte i a b e) ∙ ap (λ xs. get_or xs k 0) flags_are
-          ∙ flag_at (size layout b) k (omega (arith, first, last))
-          ∙ ap (λ z. cond (eqb z 0) 3 255)
+          ∙ flag_at (size layout b) k (omega (arith, first, last)) ∙ ap (λ z. cond (eqb z 0) 3 255)
           (let z : k % 4 ≡ a % 4 = omega (arith, first) in z)
 
       pub flagged : (a : ℕ) → class_at work.program a ≡ Shared
@@ -258,8 +212,7 @@ module _ (work : Work) (lay : Layout work) where
 
       -- 3. A store
 
-      pub stores : (x : Width) (a v : ℕ) → is_aligned x a ≡ true
-          → class_at work.program a ≡ Shared
+      pub stores : (x : Width) (a v : ℕ) → is_aligned x a ≡ true → class_at work.program a ≡ Shared
           → is_writable_state ((locals i).state (line_of a)) ≡ true
           → Held (with_local locals i (record (locals i) { copy = stored x (locals i).copy a v }))
           rest (stored x memory a v)
@@ -314,8 +267,7 @@ module _ (work : Work) (lay : Layout work) where
           record {
             held = record {
               holds = by_list (world.like lay.laws layout lay.valid lay.laid _ _ memory
-                  (miss_alike lay.laws layout lay.valid lay.some locals rest i b miss below)
-                  holds);
+                  (miss_alike lay.laws layout lay.valid lay.some locals rest i b miss below) holds);
               fits = λ j lj. (elim (eqb j i) as (λ u. FitsHere (cond u t.local (locals j))) [
                 | true ↦ fits
                 | false ↦ h.fits j lj
@@ -398,8 +350,7 @@ module _ (work : Work) (lay : Layout work) where
           (sym (grants_line lay.laws layout lay.valid lay.some work.program (locals i).state
           (h.fits i low) (line_of a) b need at) ∙ unmet) (omega arith) in
           subst (λ o. is_writable_state ((missed layout (locals i) rest i b o).local.state line)
-          ≡ true) (sym got.1)
-          (writes_kept b got.0.block.state below (λ can.
+          ≡ true) (sym got.1) (writes_kept b got.0.block.state below (λ can.
           ap can_write (sym (place_own w.state i b got.0.block.state)) ∙ got.3.writes b can) line
           writable)
 
@@ -408,8 +359,7 @@ module _ (work : Work) (lay : Layout work) where
       module _ (j : ℕ) (lj : j < layout.nodes) (m : Message) (ms : List Message)
           (front : rest.list j i ≡ m ∷ ms) where
         abbrev Leaves : Option Order → Handled Rest → Type 0
-        Leaves order t =
-            TakeLeaves layout work (directory layout) Held locals rest memory i order t
+        Leaves order t = TakeLeaves layout work (directory layout) Held locals rest memory i order t
 
         -- a Bye
         bye_leaves : (o : Option ℕ) → o ≡ None → is_bye m ≡ true
@@ -490,8 +440,7 @@ module _ (work : Work) (lay : Layout work) where
                 → can_read (new.state i d) ≡ true → is_readable_state (t.local.state line) ≡ true
             readable_then line d at can =
                 readable_line lay.laws layout lay.valid lay.some work.program t.local.state
-                (fits row refl) line d at
-                ∙ ap can_read (state_then d
+                (fits row refl) line d at ∙ ap can_read (state_then d
                 (block_below lay.laws layout lay.valid lay.some line d at)) ∙ can
 
             wait_then : (r : Row) → r ≡ row → (x c : ℕ)
@@ -520,8 +469,7 @@ module _ (work : Work) (lay : Layout work) where
                     let bad : None ≡ Some x =
                     sym (ap (λ o. order_by o (Some row)) is
                     ∙ ap (λ u. cond u (Some (record { block = block_in row; requester = k })) None)
-                    c)
-                    ∙ e in cc
+                    c) ∙ e in cc
                 by (Some k) is true c =
                     let same : Some (record { block = block_in row; requester = k }) ≡ Some x =
                     sym (ordered k is c) ∙ e in
@@ -547,8 +495,7 @@ module _ (work : Work) (lay : Layout work) where
                     ap (λ u. cond u (cleared layout b (locals i).reservation)
                     (locals i).reservation) c
                     ∙ sym (ap (λ o. cleared_by layout o (locals i).reservation)
-                    (no_order (taker_in m)
-                    (ap clears (sym is) ∙ c)))
+                    (no_order (taker_in m) (ap clears (sym is) ∙ c)))
                 by true c =
                     let gives : clears row ≡ true = ap clears (sym is) ∙ c in
                     let r = left.taker gives in
@@ -586,8 +533,7 @@ module _ (work : Work) (lay : Layout work) where
               granted = λ a b need at was gone.
                   let below = block_below lay.laws layout lay.valid lay.some (line_of a) b at in
                   grants_line lay.laws layout lay.valid lay.some work.program t.local.state
-                  (fits row refl) (line_of a) b need at
-                  ∙ ap (meets need) (state_then b below)
+                  (fits row refl) (line_of a) b need at ∙ ap (meets need) (state_then b below)
                   ∙ left.grants b need was
                   (sym (wait_then row refl i b) ∙ not_waiting (t.rest.wait i b) gone);
               reservation = reservation_then row refl;
@@ -595,8 +541,7 @@ module _ (work : Work) (lay : Layout work) where
                   let found = block_found line shared in
                   elim (left.reads found.0
                   (sym (readable_line lay.laws layout lay.valid lay.some work.program
-                  (locals i).state
-                  (h.fits i low) line found.0 found.1) ∙ readable)) [
+                  (locals i).state (h.fits i low) line found.0 found.1) ∙ readable)) [
                     | inl e ↦ inl (readable_then line found.0 found.1 e)
                     | inr e ↦ (let r = left.taker e.0 in inr (
                       record { block = block_in row; requester = r.0 },

@@ -2,22 +2,13 @@
 use Rattle.std.proofs.Common.{◌≡◌, ℕ, ◌+◌, ◌*◌, ◌<◌, ◌≤◌, ◌⊎◌, Bool, true, false, cond, eqb, ltb, ◌∷◌, Option, Some, None, refl, sym, ap, ◌∙◌, inl, inr, arith}
 use Rattle.std.specs.Prelude.{◌&&◌}
 use Rattle.std.proofs.lemmas.Bool.Decides.{nat_tests}
-use Rattle.block_layout.specs.Layout.{Shape, blocks}
+use Rattle.rewriting_law.proofs.Names.{Shape, blocks, Effect, row, Setting, local, Need, Done, Busy, Contents, need_of, busy_of, wires_of, home_in, setting_of, IsLaid, Work, Core, messages_of, HasProtocolList, EndsMisses}
 use Rattle.coherence.specs.Messages as m
-use Rattle.coherence.specs.Table.{Effect, row}
-use Rattle.coherence.specs.Machine.{Wire as BlockWire, Core as BlockCore, Setting, local, row_of, after}
+use Rattle.coherence.specs.Machine.{Wire as BlockWire, Core as BlockCore, row_of, after}
 use Rattle.coherence.proofs.Theorem.{all_costs, all_rows}
-use Rattle.home_directory.specs.dsm_messages.declared.messages.Need.{Need}
 use Rattle.home_directory.specs.dsm_messages.declared.messages.Need.TheVariants as need
-use Rattle.home_directory.specs.dsm_messages.declared.messages.Message.TheVariants.{Done}
-use Rattle.home_directory.specs.declared.directory.Busy.{Busy}
-use Rattle.dsm_protocol.specs.Abstraction.{Contents, need_of, busy_of, wires_of, home_in, setting_of}
-use Rattle.dsm_protocol.specs.Sound.{IsLaid}
 use Rattle.dsm_protocol.proofs.Taking.{home_is}
 use Rattle.dsm_protocol.proofs.Promised.{proper}
-use Rattle.dsm_protocol.specs.node_model.Node.{Work}
-use Rattle.dsm_protocol.specs.node_model.Core.{Core}
-use Rattle.rewriting_law.specs.ProtocolLists.{messages_of, HasProtocolList, EndsMisses}
 
 some_if : {A : Type 0} (u : Bool) (o : Option A) (a : A) → cond u o None ≡ Some a → (u ≡ true)
     × (o ≡ Some a)
@@ -67,8 +58,7 @@ module _ (work : Work) (laid : IsLaid work.layout) (c : Core) (memory : ℕ → 
       done = record { block = b; body = m.ToHome m.Done }
 
       first : k.list j i ≡ done ∷ wires_of (messages_of rest)
-      first = list.holds.by.leads.list j i lj li
-          ∙ ap (λ ws. wires_of (messages_of ws)) front
+      first = list.holds.by.leads.list j i lj li ∙ ap (λ ws. wires_of (messages_of ws)) front
           ∙ ap (λ x. wires_of (x ∷ messages_of rest)) is
 
       costs : ((k.busy b ≡ Some (m.Read, j)) × ((k.tally b).cost ≡ 4))

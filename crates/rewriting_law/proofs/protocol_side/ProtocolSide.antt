@@ -2,20 +2,9 @@
 -- run code.
 use Rattle.std.proofs.Common.{◌≡◌, ℕ, ◌<◌, ◌⊎◌, eqb, Bool, true, false, List, length, Option, Some, None}
 use Rattle.std.specs.Prelude.{◌&&◌}
-use Rattle.rv32_decode.specs.Widths.{is_aligned}
-use Rattle.rv32_decode.specs.declared.Width.{Width}
-use Rattle.block_layout.specs.Layout.{Shape, block_of, has_line}
-use Rattle.byte_range.specs.Memory.{stored}
-use Rattle.rv32_program.specs.declared.Class.TheVariants.{Shared}
-use Rattle.rv32_program.specs.Program.{class_at, line_of}
-use Rattle.rv32_step.specs.Breaks.{stands_at_store, RunsToStore}
-use Rattle.rv32_step.specs.OneMemory.{State}
-use Rattle.home_directory.specs.dsm_messages.declared.messages.Need.{Need}
-use Rattle.home_directory.specs.dsm_messages.declared.messages.Need.TheVariants.{Write}
-use Rattle.dsm_protocol.specs.node_model.Node.{Work, NodeMemory, Want, is_readable_state, is_writable_state}
+use Rattle.rewriting_law.proofs.Names.{is_aligned, Width, Shape, block_of, has_line, stored, Shared, class_at, line_of, stands_at_store, RunsToStore, State, Need, Write, Work, NodeMemory, Want, is_readable_state, is_writable_state, Order}
 use Rattle.rewriting_law.proofs.templates.States.{Suits, grants}
 use Rattle.rewriting_law.proofs.one_memory.Sharing.{Sharing, with_local}
-use Rattle.rewriting_law.specs.CoreRun.{Order}
 use Rattle.rewriting_law.proofs.one_memory.Messages.{cleared_by, AreLaidOut, IsAlone, stays_apart, Wanted, Took}
 use Rattle.rewriting_law.proofs.one_memory.Pending.{wanted_in}
 
@@ -83,8 +72,7 @@ module _ (layout : Shape) (work : Work) (protocol : Protocol) where
         → Holds locals rest memory → (i : ℕ) → i < work.layout.nodes → Suits work.program (locals i)
     pub coherent : (locals : ℕ → NodeMemory) (rest : protocol.Rest) (memory : ℕ → ℕ)
         → Holds locals rest memory → (i : ℕ) → i < work.layout.nodes → (a : ℕ)
-        → class_at work.program a ≡ Shared
-        → is_readable_state ((locals i).state (line_of a)) ≡ true
+        → class_at work.program a ≡ Shared → is_readable_state ((locals i).state (line_of a)) ≡ true
         → (locals i).copy a ≡ memory a
     -- one node may write a block, or some may read it
     pub alone : (locals : ℕ → NodeMemory) (rest : protocol.Rest) (memory : ℕ → ℕ)
@@ -97,8 +85,7 @@ module _ (layout : Shape) (work : Work) (protocol : Protocol) where
     pub stores : (locals : ℕ → NodeMemory) (rest : protocol.Rest) (memory : ℕ → ℕ)
         → Holds locals rest memory → (i : ℕ) → i < work.layout.nodes → (w : Width) (a value : ℕ)
         → is_aligned w a ≡ true → class_at work.program a ≡ Shared
-        → is_writable_state ((locals i).state (line_of a)) ≡ true
-        → Holds (with_local locals i
+        → is_writable_state ((locals i).state (line_of a)) ≡ true → Holds (with_local locals i
         (record (locals i) { copy = stored w (locals i).copy a value })) rest
         (stored w memory a value)
     -- a want of a block that isn't waited for, where at most one other is, and that isn't granted

@@ -1,16 +1,12 @@
 -- What the wants of a protocol list allow, and what its takes take, over all blocks.
 use Rattle.std.proofs.Common.{◌≡◌, ◌≢◌, ℕ, zero, suc, ◌+◌, ◌*◌, ◌<◌, ◌≤◌, ◌⊎◌, Bool, true, false, cond, eqb, ltb, List, [], ◌∷◌, ◌++◌, length, Option, Some, None, refl, sym, ap, ◌∙◌, subst, inl, inr, arith}
 use Rattle.std.proofs.lemmas.Bool.Decides.{eqb_tells, nat_tests}
-use Rattle.block_layout.specs.Layout.{Shape, blocks}
+use Rattle.rewriting_law.proofs.Names.{Shape, blocks, Effect, effect_or, row, Setting, Proper, local, tally_after, take_in, may_want, apply, Need, Message, Post, Contents, need_of, wires_of, setting_of}
 use Rattle.coherence.specs.Messages as m
-use Rattle.coherence.specs.Table.{Effect, effect_or, row, update}
-use Rattle.coherence.specs.Machine.{Wire, Tally, Core, Setting, Proper, Event, Store, Want, Take, local, row_of, tally_after, store_in, take_in, want_in, may_want, apply, step, opening, after}
+use Rattle.coherence.specs.Table.{update}
+use Rattle.coherence.specs.Machine.{Wire, Tally, Core, Event, Store, Want, Take, row_of, store_in, want_in, step, opening, after}
 use Rattle.coherence.proofs.Theorem.{all_frugal}
-use Rattle.home_directory.specs.dsm_messages.declared.messages.Need.{Need}
 use Rattle.home_directory.specs.dsm_messages.declared.messages.Need.TheVariants as need
-use Rattle.home_directory.specs.dsm_messages.declared.messages.Message.{Message}
-use Rattle.home_directory.specs.dsm_messages.declared.messages.Post.{Post}
-use Rattle.dsm_protocol.specs.Abstraction.{Contents, need_of, wires_of, setting_of}
 use Rattle.dsm_protocol.proofs.Taking.{IsRowOf, steps_more}
 
 -- how many blocks were wanted, to be read and to be written; how many messages were taken, and how
@@ -68,8 +64,7 @@ total_most f g (suc n) h =
     let here = h n (omega arith) in omega (arith, rest, here)
 
 -- a sum with one of its parts changed
-pub total_one : (f g : ℕ → ℕ) (b d : ℕ) → g b ≡ f b + d → ((x : ℕ) → x ≢ b → g x ≡ f x)
-    → (n : ℕ)
+pub total_one : (f g : ℕ → ℕ) (b d : ℕ) → g b ≡ f b + d → ((x : ℕ) → x ≢ b → g x ≡ f x) → (n : ℕ)
     → ((n ≤ b) × (total g n ≡ total f n)) ⊎ ((b < n) × (total g n ≡ total f n + d))
 total_one f g b d own other zero = inl (omega arith, refl)
 total_one f g b d own other (suc n) = elim (total_one f g b d own other n) [
@@ -133,8 +128,7 @@ module _ (l : Shape) (first : ℕ → Contents) where
   abbrev then : List (Event Contents) → Event Contents → Core Contents
   then es e = step s (after s es) e
 
-  is_then : (es : List (Event Contents)) (e : Event Contents)
-      → after s (es ++ e ∷ []) ≡ then es e
+  is_then : (es : List (Event Contents)) (e : Event Contents) → after s (es ++ e ∷ []) ≡ then es e
   is_then es e = steps_more s es e (opening s)
 
   by_step : (es : List (Event Contents)) (e : Event Contents) (k : Counts)
@@ -271,8 +265,7 @@ module _ (l : Shape) (first : ℕ → Contents) where
     where
       go : (t : Bool) → ltb w.block (blocks l) ≡ t
           → cond t (row s.flag s.nodes (s.home w.block) i j (ltb (c.occupancy i) 32)
-          (c.waiting w.block) (local c i w.block) w.body) None ≡ Some e
-          → w.block < blocks l
+          (c.waiting w.block) (local c i w.block) w.body) None ≡ Some e → w.block < blocks l
       go true low h = grind (arith, nat_tests)
       go false low h = let bad : None ≡ Some e = h in cc
 

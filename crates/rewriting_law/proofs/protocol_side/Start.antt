@@ -1,22 +1,12 @@
 -- The nodes at the start keep to the protocol, with the program's first contents as the one memory.
 use Rattle.std.proofs.Common.{◌≡◌, ℕ, ◌+◌, ◌%◌, ◌<◌, Bool, true, false, cond, eqb, length, get_or, Some, refl, sym, ap, ◌∙◌, arith}
 use Rattle.std.specs.Option.{option_map_or}
-use Rattle.block_layout.specs.Layout.{Shape, blocks, home, first_line, block_of}
-use Rattle.state_table.specs.declared.State.TheVariants.{Exclusive, Invalid}
-use Rattle.state_table.specs.StateByte.{byte_of, state_with}
-use Rattle.home_directory.specs.flag_memory.Copy.{bytes_from}
-use Rattle.home_directory.specs.flag_memory.Flag.{flag_byte, flags}
-use Rattle.rv32_program.specs.declared.Class.TheVariants.{Shared}
-use Rattle.rv32_program.specs.Program.{line_of}
-use Rattle.dsm_protocol.specs.Sound.{size}
-use Rattle.dsm_protocol.specs.Memory.{address_of}
+use Rattle.rewriting_law.proofs.Names.{Shape, blocks, home, first_line, block_of, Exclusive, Invalid, byte_of, state_with, bytes_from, flag_byte, flags, Shared, line_of, size, address_of, Work, first_state, first_local, is_at_home, opening_core}
 use Rattle.dsm_protocol.proofs.Bytes.{same_bytes}
 use Rattle.dsm_protocol.proofs.NodeRows.{len_flags}
 use Rattle.dsm_protocol.proofs.Openings.{contents_in, block_is, len_from, get_from}
 use Rattle.dsm_protocol.proofs.ProtocolSide as world
 use Rattle.dsm_protocol.proofs.ByAddress.{bytes_in, flag_at}
-use Rattle.dsm_protocol.specs.node_model.Node.{Work, first_state, first_local, is_at_home}
-use Rattle.dsm_protocol.specs.node_model.Core.{opening_core}
 use Rattle.rewriting_law.proofs.protocol_side.Directory.{world_of}
 use Rattle.rewriting_law.proofs.protocol_side.Blocks.{first_in, Fits}
 use Rattle.rewriting_law.proofs.protocol_side.DirectorySide.{Layout, by_list, Held, laid_out}
@@ -49,8 +39,7 @@ module _ (work : Work) (lay : Layout work) where
     -- the bytes of a block at the start
     byte_is : (b k : ℕ) → b < blocks layout → k < size layout b
         → get_or (bytes_in layout (first_local work i).copy b) k 0
-        ≡ cond (eqb (home layout b) i) (work.program.first (address_of layout b + k))
-        (flag_byte k)
+        ≡ cond (eqb (home layout b) i) (work.program.first (address_of layout b + k)) (flag_byte k)
     byte_is b k below low =
         let a = address_of layout b + k in
         let there = block_is lay.laws layout lay.valid b k below low in
@@ -59,12 +48,10 @@ module _ (work : Work) (lay : Layout work) where
         ∙ ap (λ z. cond (eqb (home layout b) i) (work.program.first a) (cond (eqb z 0) 3 255))
         (let z : a % 4 ≡ k % 4 = omega arith in z)
 
-    byte_wanted : (b k : ℕ) → k < size layout b
-        → get_or (cond (eqb (home layout b) i)
+    byte_wanted : (b k : ℕ) → k < size layout b → get_or (cond (eqb (home layout b) i)
         (bytes_from work.program.first (address_of layout b) (size layout b))
         (flags (size layout b))) k 0
-        ≡ cond (eqb (home layout b) i) (work.program.first (address_of layout b + k))
-        (flag_byte k)
+        ≡ cond (eqb (home layout b) i) (work.program.first (address_of layout b + k)) (flag_byte k)
     byte_wanted b k low = (elim (eqb (home layout b) i)
         as (λ t. get_or (cond t
         (bytes_from work.program.first (address_of layout b) (size layout b))
@@ -74,8 +61,7 @@ module _ (work : Work) (lay : Layout work) where
           | false ↦ flag_at (size layout b) k low
         ])
 
-    bytes_are : (b : ℕ) → b < blocks layout
-        → bytes_in layout (first_local work i).copy b
+    bytes_are : (b : ℕ) → b < blocks layout → bytes_in layout (first_local work i).copy b
         ≡ cond (eqb (home layout b) i)
         (bytes_from work.program.first (address_of layout b) (size layout b))
         (flags (size layout b))
@@ -90,11 +76,9 @@ module _ (work : Work) (lay : Layout work) where
           | true ↦ len_from work.program.first (address_of layout b) (size layout b)
           | false ↦ len_flags (size layout b)
         ]) in
-        same_bytes (bytes_in layout (first_local work i).copy b)
-        (cond (eqb (home layout b) i)
+        same_bytes (bytes_in layout (first_local work i).copy b) (cond (eqb (home layout b) i)
         (bytes_from work.program.first (address_of layout b) (size layout b))
-        (flags (size layout b)))
-        (len ∙ sym other) (λ k low.
+        (flags (size layout b))) (len ∙ sym other) (λ k low.
         let within : k < size layout b = omega (arith, len, low) in
         byte_is b k below within ∙ sym (byte_wanted b k within))
 

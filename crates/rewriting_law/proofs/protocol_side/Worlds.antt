@@ -1,27 +1,12 @@
 -- Nodes by address and by block: each change of a node's copy and states is one of its blocks.
 use Rattle.std.proofs.Common.{◌≡◌, ℕ, ◌*◌, ◌<◌, true, false, cond, eqb, List, length, Some, None, refl, sym, ap, ◌∙◌, inl, inr}
 use Rattle.std.proofs.lemmas.Bool.Decides.{eqb_tells}
-use Rattle.rv32_decode.specs.Widths.{is_aligned}
-use Rattle.rv32_decode.specs.declared.Width.{Width}
-use Rattle.block_layout.specs.Layout.{Shape, IsValid, blocks, lines, first_line, block_of}
-use Rattle.block_layout.specs.Update.{changed}
-use Rattle.byte_range.specs.Memory.{stored}
+use Rattle.rewriting_law.proofs.Names.{is_aligned, Width, Shape, IsValid, blocks, lines, first_line, block_of, changed, stored, state_with, Message, Miss, Row, AtHome, AtNode, line_of, World, after_miss, size, store_in, after_row, NodeMemory, with_state, with_bytes}
 use Rattle.state_table.specs.declared.State.{State}
-use Rattle.state_table.specs.StateByte.{state_with}
-use Rattle.home_directory.specs.dsm_messages.declared.messages.Message.{Message}
-use Rattle.home_directory.specs.Table.{Miss}
-use Rattle.dsm_protocol.specs.miss_handlers.Rows.{Row, AtHome, AtNode}
-use Rattle.rv32_program.specs.Program.{line_of}
-use Rattle.dsm_protocol.specs.World.{World, after_miss}
-use Rattle.dsm_protocol.specs.Sound.{size}
-use Rattle.dsm_protocol.specs.Memory.{store_in}
-use Rattle.dsm_protocol.specs.Events.{after_row}
 use Rattle.dsm_protocol.specs.Holds.{after_store}
 use Rattle.dsm_protocol.proofs.Openings.{LineLaws}
 use Rattle.dsm_protocol.proofs.Alike.{Alike}
 use Rattle.dsm_protocol.proofs.ByAddress.{bytes_in, stored_bytes, stored_elsewhere, put_own, put_other}
-use Rattle.dsm_protocol.specs.node_model.Node.{NodeMemory}
-use Rattle.dsm_protocol.specs.node_model.Turns.{with_state, with_bytes}
 use Rattle.rewriting_law.proofs.one_memory.Sharing.{with_local, is_same}
 use Rattle.rewriting_law.proofs.protocol_side.Directory.{Rest, world_of, missed, took}
 use Rattle.rewriting_law.proofs.protocol_side.Blocks.{state_put}
@@ -109,8 +94,7 @@ module _ (laws : LineLaws) (layout : Shape) (valid : IsValid layout)
 
       -- a wait has begun
       pub miss_alike : (b : ℕ) (miss : Miss) → b < blocks layout
-          → Alike layout (after_miss w i b miss)
-          (world_of layout
+          → Alike layout (after_miss w i b miss) (world_of layout
           (with_local locals i (missed layout (locals i) rest i b (Some miss)).local)
           (missed layout (locals i) rest i b (Some miss)).rest)
       miss_alike b miss below =
@@ -146,8 +130,7 @@ module _ (laws : LineLaws) (layout : Shape) (valid : IsValid layout)
       IsFull (AtNode b row) = (b < blocks layout) × (length row.block.bytes ≡ size layout b)
 
       pub row_alike : (j : ℕ) (ms : List Message) (row : Row) → IsFull row
-          → Alike layout (after_row w j i ms row)
-          (world_of layout
+          → Alike layout (after_row w j i ms row) (world_of layout
           (with_local locals i (took layout (locals i) rest i j ms (Some row)).local)
           (took layout (locals i) rest i j ms (Some row)).rest)
       row_alike j ms (AtHome b row) full = record {

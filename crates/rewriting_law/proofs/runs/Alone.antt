@@ -2,35 +2,15 @@
 use Rattle.std.proofs.Common.{◌≡◌, ℕ, ◌<◌, cond, eqb, Bool, true, false, List, [], ◌∷◌, ◌++◌, refl, sym, ap, ◌∙◌, subst, arith}
 use Rattle.std.specs.Prelude.{◌&&◌, not}
 use Rattle.std.specs.Option.{option_map_or}
-use Rattle.block_layout.specs.Layout.{Shape, home}
-use Rattle.block_layout.specs.Update.{changed}
-use Rattle.llsc.specs.Reservation.{holds}
-use Rattle.home_directory.specs.dsm_messages.declared.messages.Need.{Need}
+use Rattle.rewriting_law.proofs.Names.{Shape, home, changed, holds, Need, Message, Bye, Post, Wire, is_bye, Shared, line_of, Processor, State, Request, Becomes, Prints, LoadsFrom, StoresTo, ReservesAt, StoresWhere, UpdatesAt, opening, request, run, CommitKind, PlanEntry, commit_at, old_of, AreByes, Work, Node, NodeMemory, Move, Waits, Leaves, WordOutcome, first_state, is_at_home, is_writable_state, can_execute, Phase, word_outcome, Turn, silent, byes_to, with_byes, is_ended, wants_of, want_all, after_word, after_wants, word_turn, handled, journaled, after_message, take_turn, each_block_once, Core, Event, Exec, Take, May, IsCoreRun, opening_core, wires_to, with_list, take_first, event_step, after, is_wait, commits_by, picks_at, original_by_node, GoesAlone}
 use Rattle.home_directory.specs.dsm_messages.declared.messages.Need.TheVariants as need
-use Rattle.home_directory.specs.dsm_messages.declared.messages.Message.{Message}
-use Rattle.home_directory.specs.dsm_messages.declared.messages.Message.TheVariants.{Read, Write, FwdRead, FwdWrite, Inval, Data, Grant, Ack, Done, Bye}
-use Rattle.home_directory.specs.dsm_messages.declared.messages.Post.{Post}
-use Rattle.home_directory.specs.dsm_messages.declared.messages.Wire.{Wire}
-use Rattle.dsm_protocol.specs.miss_handlers.Rows.{is_bye}
-use Rattle.rv32_program.specs.declared.Class.TheVariants.{Shared}
-use Rattle.rv32_program.specs.Program.{line_of}
-use Rattle.rv32_step.specs.OneMemory.{Processor, State, Request, Becomes, Prints, LoadsFrom, StoresTo, ReservesAt, StoresWhere, UpdatesAt, opening, request, run}
-use Rattle.templates.specs.declared.commits.CommitKind.{CommitKind}
-use Rattle.templates.specs.declared.plans.PlanEntry.{PlanEntry}
-use Rattle.templates.specs.Commits.{commit_at}
-use Rattle.dsm_protocol.specs.jump_map.Maps.{old_of}
-use Rattle.dsm_protocol.specs.Holds.{AreByes}
-use Rattle.dsm_protocol.specs.node_model.Node.{Work, Node, NodeMemory, Move, Next, Again, To, Enters, Waits, Leaves, WordOutcome, first_state, is_at_home, is_writable_state, can_execute, Phase, word_outcome}
-use Rattle.dsm_protocol.specs.node_model.Turns.{Turn, silent, byes_to, with_byes, is_ended, wants_of, want_all, after_word, after_wants, word_turn, handled, journaled, after_message, take_turn, each_block_once}
-use Rattle.dsm_protocol.specs.node_model.Core.{Core, Event, Exec, Take, May, IsCoreRun, opening_core, wires_to, with_list, take_first, event_step, after}
-use Rattle.rewriting_law.specs.CoreRun.{is_wait, commits_by, picks_at}
-use Rattle.rewriting_law.specs.Interleaving.{original_by_node, GoesAlone}
+use Rattle.home_directory.specs.dsm_messages.declared.messages.Message.TheVariants.{Read, Write}
 use Rattle.rewriting_law.proofs.templates.States.{grants}
 use Rattle.rewriting_law.proofs.templates.Does.{local_conditional, Commits}
 use Rattle.rewriting_law.proofs.words.CodeSide.{Pace, GoesOn, Follows, CodeSide}
 use Rattle.rewriting_law.proofs.one_memory.Sharing.{readable_if_writable}
 use Rattle.rewriting_law.proofs.templates.RegisterLemmas.{equal}
-use Rattle.rewriting_law.proofs.one_memory.Matching.{Activity, Runs, Awaits, HasEnded}
+use Rattle.rewriting_law.proofs.one_memory.Matching.{Activity, Runs}
 use Rattle.rewriting_law.proofs.protocol_side.DirectorySide.{Layout, laid_out}
 use Rattle.rewriting_law.proofs.runs.Turns.{byes_node}
 use Rattle.rewriting_law.proofs.runs.TurnTies.{resumed_blocks}
@@ -64,15 +44,7 @@ all_byes nodes t false e = subst AreByes (sym e) tt
 pub bye_noted : (layout : Shape) (n : Node) (j : ℕ) (m : Message) → is_bye m ≡ true
     → handled layout n j m ≡ silent (record n { byes = changed n.byes j true })
 bye_noted layout n j Bye e = refl
-bye_noted layout n j (Read b buf) e = absurd cc
-bye_noted layout n j (Write b buf) e = absurd cc
-bye_noted layout n j (FwdRead b r buf) e = absurd cc
-bye_noted layout n j (FwdWrite b r k buf) e = absurd cc
-bye_noted layout n j (Inval b r) e = absurd cc
-bye_noted layout n j (Data b k buf) e = absurd cc
-bye_noted layout n j (Grant b k buf) e = absurd cc
-bye_noted layout n j (Ack b) e = absurd cc
-bye_noted layout n j (Done b) e = absurd cc
+bye_noted layout n j other e = absurd cc
 
 granted_all : (want : Need) (s : ℕ) → is_writable_state s ≡ true → grants want s ≡ true
 granted_all need.Read s h = readable_if_writable s h
@@ -81,10 +53,7 @@ granted_all need.Write s h = h
 no_wants : (mv : Move) → is_wait mv ≡ false → wants_of mv ≡ []
 no_wants (Leaves e) h = refl
 no_wants (Waits resume want more) h = let bad : true ≡ false = h in cc
-no_wants Next h = refl
-no_wants Again h = refl
-no_wants (To target) h = refl
-no_wants (Enters target) h = refl
+no_wants other h = refl
 
 module _ (work : Work) (plan : List PlanEntry) (lay : Layout work)
     (code : CodeSide work.layout work plan) where
@@ -126,10 +95,7 @@ module _ (work : Work) (plan : List PlanEntry) (lay : Layout work)
         → Follows layout work plan (code.Stands x) q n r kind mv → r.local.state ≡ n.state
     follows_state x kind (Leaves e) h = ap (λ (x : NodeMemory). x.state) h.local
     follows_state x kind (Waits resume want more) h = ap (λ (x : NodeMemory). x.state) h.1.local
-    follows_state x kind Next h = goes_state x (commits_by kind r) h
-    follows_state x kind Again h = goes_state x (commits_by kind r) h
-    follows_state x kind (To target) h = goes_state x (commits_by kind r) h
-    follows_state x kind (Enters target) h = goes_state x (commits_by kind r) h
+    follows_state x kind other h = goes_state x (commits_by kind r) h
 
     -- and none waits
     never_waits : (x : Pace) (kind : CommitKind) (mv : Move) → HasAll n
@@ -138,11 +104,7 @@ module _ (work : Work) (plan : List PlanEntry) (lay : Layout work)
         let w = h.1.wanted.0 in
         let bad : false ≡ true = sym w.unmet
         ∙ granted_all want.need (n.state (line_of want.at)) (all (line_of want.at) w.shared) in cc
-    never_waits x kind (Leaves e) all h = refl
-    never_waits x kind Next all h = refl
-    never_waits x kind Again all h = refl
-    never_waits x kind (To target) all h = refl
-    never_waits x kind (Enters target) all h = refl
+    never_waits x kind other all h = refl
 
   module _ (c : Core) (s : State) (m : MatchesCore work plan lay code c s) (a : AllAlone c) (i : ℕ)
       (below : i < layout.nodes) where
@@ -177,8 +139,7 @@ module _ (work : Work) (plan : List PlanEntry) (lay : Layout work)
           ap (λ (x : Node). is_writable_state (x.local.state line)) word_alone.node
           ∙ ap (λ (f : ℕ → ℕ). is_writable_state (f line))
           (follows_state (s.processors i) n.local r (pace_of_word work plan lay code c m.paces i) kind r.move
-          (next_word work plan lay code c s m i below runs))
-          ∙ a.writable i below line shared
+          (next_word work plan lay code c s m i below runs)) ∙ a.writable i below line shared
 
       word_keeps : AllAlone (event_step work c (Exec i))
       word_keeps =
@@ -244,9 +205,8 @@ module _ (work : Work) (plan : List PlanEntry) (lay : Layout work)
   runs_when : (a : Activity) (p : Phase) → IsPhase work plan lay code a p → can_execute p ≡ true
       → a ≡ Runs
   runs_when Runs p h e = refl
-  runs_when (Awaits resume want more) p h e =
+  runs_when other p h e =
       let bad : false ≡ true = sym (ap can_execute h) ∙ e in cc
-  runs_when (HasEnded end) p h e = let bad : false ≡ true = sym (ap can_execute h) ∙ e in cc
 
   alone_after : (es : List Event) (c : Core) (s : State) → MatchesCore work plan lay code c s
       → AllAlone c → IsCoreRun work c es → (i : ℕ) → i < layout.nodes

@@ -1,18 +1,9 @@
 -- What holds of nodes and lists that are stored otherwise, and where a node's Byes stand behind its
 -- turn.
 use Rattle.std.proofs.Common.{◌≡◌, ℕ, zero, suc, Bool, true, false, List, [], ◌∷◌, ◌++◌, refl, sym, ap, subst}
-use Rattle.block_layout.specs.Layout.{Shape, first_line}
-use Rattle.state_table.specs.StateByte.{state_with}
-use Rattle.home_directory.specs.dsm_messages.declared.messages.Post.{Post}
-use Rattle.home_directory.specs.dsm_messages.declared.messages.Message.TheVariants.{Bye}
-use Rattle.home_directory.specs.Home.{post}
-use Rattle.dsm_protocol.specs.World.{with_sends}
-use Rattle.dsm_protocol.specs.Holds.{AreByes}
+use Rattle.rewriting_law.proofs.Names.{Shape, first_line, state_with, Post, Bye, post, with_sends, AreByes, Work, NodeMemory, Turn, byes_to, with_byes, Core}
 use Rattle.dsm_protocol.proofs.ProtocolSide as world
 use Rattle.dsm_protocol.proofs.ByAddress.{bytes_in}
-use Rattle.dsm_protocol.specs.node_model.Node.{Work, NodeMemory}
-use Rattle.dsm_protocol.specs.node_model.Turns.{Turn, byes_to, with_byes}
-use Rattle.dsm_protocol.specs.node_model.Core.{Core}
 use Rattle.rewriting_law.proofs.protocol_side.ProtocolSide.{Handled}
 use Rattle.rewriting_law.proofs.protocol_side.Spending.{Counts, AreCounted}
 use Rattle.rewriting_law.proofs.protocol_side.Directory.{Rest, world_of}

@@ -2,30 +2,8 @@
 use Rattle.std.proofs.Common.{◌≡◌, ℕ, ◌+◌, ◌<◌, ◌⊎◌, cond, eqb, Bool, true, false, List, [], ◌∷◌, Option, Some, None, refl, sym, ap, ◌∙◌, subst, inl, inr, append-nil, arith}
 use Rattle.std.specs.Prelude.{is_some, option_and_then, not, ◌&&◌}
 use Rattle.std.specs.Option.{option_map_or}
-use Rattle.block_layout.specs.Layout.{Shape, blocks}
-use Rattle.home_directory.specs.dsm_messages.declared.messages.Wire.{Wire}
-use Rattle.home_directory.specs.dsm_messages.declared.messages.Need.{Need}
-use Rattle.home_directory.specs.declared.wait.Wait.{Wait}
-use Rattle.home_directory.specs.Home.{count_of}
-use Rattle.dsm_protocol.specs.miss_handlers.Rows.{row_of, taker_in}
-use Rattle.rv32_program.specs.declared.Exit.{Exit}
-use Rattle.rv32_program.specs.declared.End.TheVariants.{Exited, Stopped}
-use Rattle.rv32_program.specs.Program.{line_of}
-use Rattle.rv32_step.specs.Breaks.{is_in_block}
-use Rattle.rv32_step.specs.OneMemory.{Original, Processor, State, Pick, opening, run}
-use Rattle.templates.specs.declared.commits.CommitKind.{CommitKind}
-use Rattle.templates.specs.declared.plans.PlanEntry.{PlanEntry}
-use Rattle.templates.specs.Commits.{commit_at}
-use Rattle.dsm_protocol.specs.jump_map.Maps.{old_of, fetch}
-use Rattle.dsm_protocol.specs.Holds.{wanted}
+use Rattle.rewriting_law.proofs.Names.{Shape, blocks, Wire, Need, Wait, count_of, row_of, taker_in, Exit, Exited, Stopped, line_of, is_in_block, Original, Processor, State, Pick, opening, run, CommitKind, PlanEntry, commit_at, old_of, fetch, wanted, Work, Node, ProcessorState, NodeMemory, Want, Move, Waits, Leaves, Resume, WordOutcome, Phase, Running, Resumed, Waiting, Ended, lane_after, lane_resumed, phase_after, stop_or, takes_messages, standing_in, has_all_byes, word_outcome, Turn, holding, with_byes, is_ended, wants_of, after_word, after_wants, handled, has_no_wait, resumed, journaled, after_message, take_turn, each_block_once, Core, Event, Exec, Take, May, IsCoreRun, may_execute, may_take, opening_core, with_turn, with_list, take_first, event_step, after, printed_at, printed_by, messages_of, Order, is_wait, order_by, break_by, picks_of_take, picks_at, picks_of, values_at, values_of, AllLicensed, IsLicensed, original_by_node, EndsAs}
 use Rattle.dsm_protocol.specs.node_model.declared.Standing.TheVariants as standing
-use Rattle.dsm_protocol.specs.node_model.Node.{Work, Node, ProcessorState, NodeMemory, Want, Move, Next, Again, To, Enters, Waits, Leaves, Resume, WordOutcome, Phase, Running, Resumed, Waiting, Ended, lane_after, lane_resumed, phase_after, stop_or, takes_messages, standing_in, has_all_byes, word_outcome}
-use Rattle.dsm_protocol.specs.node_model.Turns.{Turn, holding, with_byes, is_ended, wants_of, after_word, after_wants, handled, has_no_wait, resumed, journaled, after_message, take_turn, each_block_once}
-use Rattle.dsm_protocol.specs.node_model.Core.{Core, Event, Exec, Take, May, IsCoreRun, may_execute, may_take, opening_core, with_turn, with_list, take_first, event_step, after, printed_at, printed_by}
-use Rattle.rewriting_law.specs.ProtocolLists.{messages_of}
-use Rattle.rewriting_law.specs.CoreRun.{Order, is_wait, order_by, break_by, picks_of_take, picks_at, picks_of, values_at, values_of}
-use Rattle.rewriting_law.specs.Licence.{AllLicensed, IsLicensed}
-use Rattle.rewriting_law.specs.Interleaving.{original_by_node, EndsAs}
 use Rattle.rewriting_law.proofs.templates.RegisterLemmas.{equal, apart}
 use Rattle.rewriting_law.proofs.words.CodeSide.{Pace, first_pace, pace_after, pace_at, AllWanted, Follows, CodeSide}
 use Rattle.rewriting_law.proofs.one_memory.Sharing.{IsReadable, with_local, is_same, local_here}
@@ -39,21 +17,13 @@ use Rattle.rewriting_law.proofs.one_memory.Matching.{Activity, Runs, Awaits, Has
 use Rattle.rewriting_law.proofs.protocol_side.Directory.{Rest, took, take_from, order_from, is_some_list, directory}
 use Rattle.rewriting_law.proofs.protocol_side.CountedBlocks.{none_counted, some_counted}
 use Rattle.rewriting_law.proofs.protocol_side.DirectorySide.{Layout, Held, is_waiting, laid_out, directory_side}
-use Rattle.rewriting_law.proofs.runs.Turns.{SameProcessor, byes_node, wants_same, handled_same, goes_on_from}
+use Rattle.rewriting_law.proofs.runs.Turns.{SameProcessor, byes_node, wants_same, handled_same, goes_on_from, resumed_is}
 use Rattle.rewriting_law.proofs.runs.Behind.{held_like, counting, byes_behind}
 use Rattle.rewriting_law.proofs.runs.TurnTies.{rest_at, rest_of, locals_of, IsTurn, local_after, own_wait, other_node, word_turned, AllFound, wants_turned, message_turned, resumed_blocks}
 use Rattle.rewriting_law.proofs.protocol_side.Start.{opens}
 
 resumed_me : (work : Work) (n : Node) (phase : Phase) → (resumed work n phase).me ≡ n.me
-resumed_me work n Running = refl
-resumed_me work n Resumed = refl
-resumed_me work n (Ended end) = refl
-resumed_me work n (Waiting resume) =
-    let on = goes_on_from work n resume in
-    (elim (has_no_wait work.layout n) as (λ z. (cond z on n).me ≡ n.me) [
-      | true ↦ refl
-      | false ↦ refl
-    ])
+resumed_me work n = resumed_is work n (λ m. m.me ≡ n.me) refl (λ resume. refl)
 
 module _ (work : Work) (plan : List PlanEntry) (lay : Layout work)
     (code : CodeSide work.layout work plan) where
@@ -198,30 +168,21 @@ module _ (work : Work) (plan : List PlanEntry) (lay : Layout work)
       (stop_or work.budget executed p)
   stop_phase executed p h = (elim (eqb executed work.budget)
       as (λ z. IsPhase (cond z (HasEnded (Stopped work.budget)) Runs)
-      (cond z (Ended (Stopped work.budget)) p)) [
-        | true ↦ refl
-        | false ↦ h
-      ])
+      (cond z (Ended (Stopped work.budget)) p)) [ true ↦ refl | false ↦ h ])
 
   word_phase : (executed : ℕ) (mv : Move)
       → IsPhase (doing_after layout work plan code protocol side laid executed mv)
       (phase_after work.budget executed mv)
   word_phase executed (Leaves e) = refl
   word_phase executed (Waits resume want more) = refl
-  word_phase executed Next = stop_phase executed Running (inl refl)
-  word_phase executed Again = stop_phase executed Running (inl refl)
-  word_phase executed (To target) = stop_phase executed Running (inl refl)
-  word_phase executed (Enters target) = stop_phase executed Running (inl refl)
+  word_phase executed other = stop_phase executed Running (inl refl)
 
   -- only a word that doesn't wait leaves a processor running
   word_calm : (executed : ℕ) (mv : Move) → phase_after work.budget executed mv ≡ Running
       → is_wait mv ≡ false
   word_calm executed (Leaves e) h = refl
   word_calm executed (Waits resume want more) h = let bad : Waiting resume ≡ Running = h in cc
-  word_calm executed Next h = refl
-  word_calm executed Again h = refl
-  word_calm executed (To target) h = refl
-  word_calm executed (Enters target) h = refl
+  word_calm executed other h = refl
 
   resumed_calm : (n : Node) (phase : Phase) → n.phase ≡ phase → (resumed work n phase).phase ≡ Running
       → phase ≡ Running
@@ -290,8 +251,7 @@ module _ (work : Work) (plan : List PlanEntry) (lay : Layout work)
 
   -- and once it has taken the first message from node j
   abbrev pub counts_of_take : Counts → Core → (i j : ℕ) → Counts
-  counts_of_take counts c i j =
-      (protocol.take (locals_of c) (rest_at counts c) i j).rest.counts
+  counts_of_take counts c i j = (protocol.take (locals_of c) (rest_at counts c) i j).rest.counts
 
   abbrev pub counts_by : Counts → Core → Event → Counts
   counts_by counts c (Exec i) = counts_of_word counts c i
@@ -324,8 +284,7 @@ module _ (work : Work) (plan : List PlanEntry) (lay : Layout work)
     q = s.processors i
 
     -- what a word waits for are blocks
-    all_found : (ws : List Want) → AllWanted layout work plan q n.local ws
-        → AllFound c i layout ws
+    all_found : (ws : List Want) → AllWanted layout work plan q n.local ws → AllFound c i layout ws
     all_found [] h = tt
     all_found (w ∷ ws) h = (laid.found (line_of w.at) h.0.shared, all_found ws h.2)
 
@@ -335,10 +294,7 @@ module _ (work : Work) (plan : List PlanEntry) (lay : Layout work)
     follows_found r kind (Leaves e) h = tt
     follows_found r kind (Waits resume want more) h =
         all_found (each_block_once layout (want ∷ more)) h.1.wanted
-    follows_found r kind Next h = tt
-    follows_found r kind Again h = tt
-    follows_found r kind (To target) h = tt
-    follows_found r kind (Enters target) h = tt
+    follows_found r kind other h = tt
 
     -- a word
     module _ (runs : m.doing i ≡ Runs) where
@@ -372,9 +328,7 @@ module _ (work : Work) (plan : List PlanEntry) (lay : Layout work)
       turned : IsTurn c i (after_wants work n) asked
       turned =
           wants_turned c i layout work plan locals1 (each_block_once layout (wants_of r.move))
-          (after_word work n) first
-          found
-          (subst (λ x. IsTurn c i (after_word work n)
+          (after_word work n) first found (subst (λ x. IsTurn c i (after_word work n)
           (record { local = x; rest = rest_at m.counts c }))
           (sym (local_here (locals_of c) i r.local)) (word_turned c i work m.counts))
 
@@ -396,11 +350,9 @@ module _ (work : Work) (plan : List PlanEntry) (lay : Layout work)
                   (pace_of_word c m.paces i) (lane_after work.image r.lane r.move)
                   (doing_after layout work plan code protocol side laid (n.executed + 1) r.move)
                   (run original s ks) w.behind same.lane
-                  (λ e. word_calm (n.executed + 1) r.move (sym same.phase ∙ e))
-                  m.calm
+                  (λ e. word_calm (n.executed + 1) r.move (sym same.phase ∙ e)) m.calm
                   (subst (IsPhase (doing_after layout work plan code protocol side laid
-                  (n.executed + 1) r.move)) (sym same.phase)
-                  (word_phase (n.executed + 1) r.move))
+                  (n.executed + 1) r.move)) (sym same.phase) (word_phase (n.executed + 1) r.move))
                   same.me m.phases m.numbers;
               counted = refl;
               paced = refl;
@@ -445,8 +397,7 @@ module _ (work : Work) (plan : List PlanEntry) (lay : Layout work)
       handled_turned : IsTurn c1 i t1 taken
       handled_turned =
           subst (IsTurn c1 i t1) row_taken
-          (message_turned c1 i layout m.counts c.list j ws (λ x y. refl) n1
-          (record {
+          (message_turned c1 i layout m.counts c.list j ws (λ x y. refl) n1 (record {
             local = refl;
             entry = refl;
             waiting = refl;
@@ -476,8 +427,7 @@ module _ (work : Work) (plan : List PlanEntry) (lay : Layout work)
 
       -- what the node waits for then
       waited : (b : ℕ) → is_some (t1.node.wait b) ≡ is_some (wait_then b)
-      waited b = is_waiting (t1.node.wait b)
-          ∙ ap (λ (f : ℕ → Option Wait). is_some (wanted (f b)))
+      waited b = is_waiting (t1.node.wait b) ∙ ap (λ (f : ℕ → Option Wait). is_some (wanted (f b)))
           (own_wait c1 i t1 taken handled_turned)
 
       none_waits : ((b : ℕ) → wait_then b ≡ None) → has_no_wait layout t1.node ≡ true
@@ -495,8 +445,7 @@ module _ (work : Work) (plan : List PlanEntry) (lay : Layout work)
           omega (arith, some, e))
 
       abbrev WaitsAs : Activity → Type 0
-      WaitsAs a =
-          (b : ℕ) → wait_then b ≡ wait_in layout work plan code protocol side laid a b
+      WaitsAs a = (b : ℕ) → wait_then b ≡ wait_in layout work plan code protocol side laid a b
 
       abbrev on : Resume → Node
       on resume = goes_on_from work t1.node resume
@@ -516,8 +465,7 @@ module _ (work : Work) (plan : List PlanEntry) (lay : Layout work)
           let none = none_waits (λ b. waits b
           ∙ no_wait layout work plan code protocol side laid n.executed b) in
           let to : n2 ≡ on resume = is ∙ ap (λ z. cond z (on resume) t1.node) none in (
-            ap (λ (y : Node). y.lane) to
-                ∙ ap (λ z. lane_resumed z t1.node.local resume) same1.lane
+            ap (λ (y : Node). y.lane) to ∙ ap (λ z. lane_resumed z t1.node.local resume) same1.lane
                 ∙ ap (λ x. lane_resumed n.lane x resume) handled_turned.local,
             subst (IsPhase (goes_or_stops layout work plan code protocol side laid n.executed))
                 (sym (ap (λ (y : Node). y.phase) to
@@ -567,11 +515,9 @@ module _ (work : Work) (plan : List PlanEntry) (lay : Layout work)
           ap (picks_of_take work c i j) front
           ∙ ap (λ k. break_by layout i (order_by (taker_in wire.message)
           (row_of layout k (holding layout n) j wire.message)) n.local.reservation)
-          (m.numbers i below)
-          ∙ ap (λ xs. break_by layout i
+          (m.numbers i below) ∙ ap (λ xs. break_by layout i
           (order_from layout (locals_of c) (rest_at m.counts c) i j (messages_of xs))
-          n.local.reservation)
-          (sym front)
+          n.local.reservation) (sym front)
 
       message_leads : LeadsTo s (break_by layout i order_there n.local.reservation) (λ p. []) []
           (counts_of_take m.counts c i j) (paces_by c m.paces (Take i j))
@@ -602,8 +548,7 @@ module _ (work : Work) (plan : List PlanEntry) (lay : Layout work)
                 (is_ended (after_message work n j wire).node.phase && not (is_ended n.phase))
                 m.paces m.doing (m.paces i) l_then a_then (run original s ks) e.behind went.0
                 (λ h. m.calm i below (sym same1.phase ∙ resumed_calm t1.node t1.node.phase refl h))
-                m.calm went.1
-                (resumed_me work t1.node t1.node.phase ∙ same1.me) m.phases m.numbers;
+                m.calm went.1 (resumed_me work t1.node t1.node.phase ∙ same1.me) m.phases m.numbers;
             counted = refl {a = taken.rest.counts};
             paced = refl;
           }
@@ -707,5 +652,4 @@ module _ (work : Work) (plan : List PlanEntry) (lay : Layout work)
 
   pub composes_from_start : (es : List Event) → IsCoreRun work (opening_core work) es
       → Composes (opening_core work) (opening original) es
-  composes_from_start es may =
-      composes es (opening_core work) (opening original) start_matches may
+  composes_from_start es may = composes es (opening_core work) (opening original) start_matches may

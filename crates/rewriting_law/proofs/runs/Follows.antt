@@ -1,19 +1,8 @@
 -- The composed law, from the code's side and the directory protocol's.
 use Rattle.std.proofs.Common.{◌≡◌, ◌≢◌, ℕ, ◌*◌, ◌/◌, ◌<◌, ◌≤◌, true, List, [], length, refl, sym, ap, ◌∙◌, subst, inl, arith}
 use Rattle.std.specs.Prelude.{IsSome}
-use Rattle.block_layout.specs.Layout.{Shape, IsValid, blocks, home, lines, block_of}
-use Rattle.rv32_program.specs.Program.{IsAccepted, line_of}
-use Rattle.rv32_step.specs.OneMemory.{opening}
-use Rattle.templates.specs.declared.plans.PlanEntry.{PlanEntry}
-use Rattle.dsm_protocol.specs.jump_map.Image.{IsRewriting}
+use Rattle.rewriting_law.proofs.Names.{Shape, IsValid, blocks, home, lines, block_of, IsAccepted, line_of, opening, PlanEntry, IsRewriting, Over, Work, Resume, Waiting, Ended, is_readable_state, is_writable_state, IsLaidOver, can_execute, standing_of, Event, Exec, May, IsCoreRun, opening_core, after, most_events, steps_of, AllLicensed, Interleaves, IsCoherent, GoesAlone, SameReservations, HaveRows, original_by_node, original_after, HasProtocolList, AscendsBetweenPolls, pc_at, committed, Stopped, commits, picks_of, AreFrugal, counts_after}
 use Rattle.dsm_protocol.proofs.Openings.{LineLaws}
-use Rattle.dsm_protocol.specs.node_model.declared.Standing.TheVariants.{Over}
-use Rattle.dsm_protocol.specs.node_model.Node.{Work, Resume, Waiting, Ended, is_readable_state, is_writable_state, IsLaidOver, can_execute, standing_of}
-use Rattle.dsm_protocol.specs.node_model.Core.{Event, Exec, May, IsCoreRun, opening_core, after}
-use Rattle.rewriting_law.specs.Bounds.{most_events, steps_of}
-use Rattle.rewriting_law.specs.Licence.{AllLicensed}
-use Rattle.rewriting_law.specs.Interleaving.{Interleaves, IsCoherent, GoesAlone, SameReservations, HaveRows, original_by_node, original_after}
-use Rattle.rewriting_law.specs.ProtocolLists.{HasProtocolList}
 use Rattle.rewriting_law.proofs.words.CodeSide.{CodeSide}
 use Rattle.rewriting_law.proofs.words.CodeFollows.{code_side}
 use Rattle.rewriting_law.proofs.protocol_side.DirectorySide.{Layout, laid_out, coherent as nodes_coherent, alone, flagged}
@@ -26,10 +15,6 @@ use Rattle.rewriting_law.proofs.progress.Costs as costs
 use Rattle.rewriting_law.proofs.progress.Steps as steps
 use Rattle.rewriting_law.proofs.progress.Ascending as ascending
 use Rattle.rewriting_law.proofs.progress.Ascending.{Climb, behind_first, climbs_between, ascends_from_third, few_places, some_entry}
-use Rattle.rewriting_law.specs.Ascents.{AscendsBetweenPolls, pc_at, committed}
-use Rattle.rv32_program.specs.declared.End.TheVariants.{Stopped}
-use Rattle.rewriting_law.specs.CoreRun.{commits, picks_of}
-use Rattle.dsm_protocol.specs.node_model.Outcome.{AreFrugal, counts_after}
 
 -- what the laws of blocks say of a layout
 pub layout_of : LineLaws → ((s : Shape) (b : ℕ) → IsValid s → b < blocks s → 0 < lines s b)
@@ -123,8 +108,7 @@ module _ (work : Work) (plan : List PlanEntry) (accepted : IsAccepted work.progr
   pub goes_alone : work.layout.nodes ≡ 1
       → can_execute ((after work (opening_core work) es).nodes 0).phase ≡ true
       → GoesAlone work ((after work (opening_core work) es).nodes 0)
-  goes_alone single runs =
-      one_alone work plan lay code single es may runs
+  goes_alone single runs = one_alone work plan lay code single es may runs
 
   -- some event is allowed
   pub goes_on : (i : ℕ) → i < work.layout.nodes
@@ -177,6 +161,5 @@ module _ (work : Work) (plan : List PlanEntry) (accepted : IsAccepted work.progr
         few = few_places work.program plan steps admissible.ascends
             (λ a place from. admissible.complete a place)
             (some_entry plan work.program.entry (admissible.complete work.program.entry
-            (inl (subst IsSome (sym accepted.starts) refl))))
-            climbs;
+            (inl (subst IsSome (sym accepted.starts) refl)))) climbs;
       }

@@ -2,40 +2,9 @@
 use Rattle.std.proofs.Common.{◌≡◌, ◌≢◌, ℕ, ◌*◌, ◌/◌, ◌%◌, ◌⊎◌, cond, eqb, Bool, true, false, List, [], ◌∷◌, ◌++◌, Option, Some, None, refl, sym, ap, ◌∙◌, subst, inl, inr}
 use Rattle.std.specs.Prelude.{not, ◌&&◌, ◌==◌, pos}
 use Rattle.std.proofs.lemmas.Bool.Decides.{eqb_tells}
-use Rattle.rv32_decode.specs.Widths.{width_of, is_aligned}
-use Rattle.rv32_decode.specs.declared.Width.{Width}
-use Rattle.rv32_decode.specs.declared.Width.TheVariants.{Word}
-use Rattle.rv32_decode.specs.declared.LoadKind.{LoadKind}
+use Rattle.rewriting_law.proofs.Names.{width_of, is_aligned, Width, Word, LoadKind, Program, line_of, offset_address, Shape, block_of, has_line, holds, cleared, Need, Wire, Miss, NodeRow, Row, AtHome, AtNode, row_of, taker_in, is_bye, Demand, Sets, Continues, Jumps, Branches, Loads, Stores, Calls, Traps, Reserves, StoresIf, Updates, CallStep, Ends, Returns, Puts, amo, load_value, reg, demand_of, call_step, Access, WritesIf, Break, PlanEntry, RtWord, Native, MissR, MissW, Poll, Call, Xjalr, Prepare, Batch, ImageWord, fetch, World, Work, Node, ProcessorState, NodeMemory, Want, WordOutcome, Region, Memory, StateOf, Spill, Elsewhere, region_of, load, store, reserving, store_if, byte_at, native, miss_r_by, miss_w_by, prepare_by, make_call, place_address, execute, execute_read, execute_at, is_mapped_state, is_readable_state, is_fixed_state, is_writable_state, word_outcome, batch, batch_by, one_refuses, unmet, need_of_run, Turn, block_at, holding, with_miss, want_in, want_all, wants_of, after_word, after_wants, word_turn, is_ended, by_row_or, handled, journaled, after_message, take_turn, each_block_once, Core, Event, Exec, Take, take_first, event_step, order_by, break_by, picks_of_take, IsConditional, IsLostBy}
 use Rattle.rv32_decode.specs.declared.LoadKind.TheVariants.{Word as WordLoad}
-use Rattle.rv32_program.specs.Program.{Program, line_of}
-use Rattle.rv32_program.specs.Targets.{offset_address}
-use Rattle.block_layout.specs.Layout.{Shape, block_of, has_line}
-use Rattle.llsc.specs.Reservation.{holds, cleared}
-use Rattle.home_directory.specs.dsm_messages.declared.messages.Need.{Need}
-use Rattle.home_directory.specs.dsm_messages.declared.messages.Wire.{Wire}
-use Rattle.home_directory.specs.Table.{Miss, NodeRow}
-use Rattle.dsm_protocol.specs.miss_handlers.Rows.{Row, AtHome, AtNode, row_of, taker_in, is_bye}
-use Rattle.rv32_step.specs.declared.Demand.{Demand}
-use Rattle.rv32_step.specs.declared.Demand.TheVariants.{Sets, Continues, Jumps, Branches, Loads, Stores, Calls, Traps, Reserves, StoresIf, Updates}
-use Rattle.rv32_step.specs.declared.CallStep.{CallStep}
-use Rattle.rv32_step.specs.declared.CallStep.TheVariants.{Ends, Returns, Puts}
-use Rattle.rv32_ops.specs.Operations.{amo}
-use Rattle.rv32_step.specs.Memory.{load_value}
-use Rattle.rv32_step.specs.Registers.{reg}
-use Rattle.rv32_step.specs.Demands.{demand_of, call_step}
-use Rattle.rv32_step.specs.OneMemory.{Access, WritesIf, Break}
-use Rattle.templates.specs.declared.plans.PlanEntry.{PlanEntry}
-use Rattle.runtime_words.specs.declared.RtWord.{RtWord}
-use Rattle.runtime_words.specs.declared.RtWord.TheVariants.{Native, MissR, MissW, Poll, Call, Xjalr, Prepare, Far, TrapFetch, TrapOff, TrapIllegal, TrapEbreak, Batch}
-use Rattle.dsm_protocol.specs.jump_map.declared.image.ImageWord.{ImageWord}
-use Rattle.dsm_protocol.specs.jump_map.Maps.{fetch}
-use Rattle.dsm_protocol.specs.World.{World}
 use Rattle.dsm_protocol.proofs.RowFacts.{row_facts}
-use Rattle.dsm_protocol.specs.node_model.Node.{Work, Node, ProcessorState, NodeMemory, Want, WordOutcome, Region, Memory, StateOf, Spill, Elsewhere, region_of, load, store, reserving, store_if, byte_at, native, miss_r_by, miss_w_by, prepare_by, make_call, place_address, execute, execute_read, execute_at, is_mapped_state, is_readable_state, is_fixed_state, is_writable_state, word_outcome, batch, batch_by, one_refuses, unmet, need_of_run}
-use Rattle.dsm_protocol.specs.node_model.Turns.{Turn, block_at, holding, with_miss, want_in, want_all, wants_of, after_word, after_wants, word_turn, is_ended, by_row_or, handled, journaled, after_message, take_turn, each_block_once}
-use Rattle.dsm_protocol.specs.node_model.Core.{Core, Event, Exec, Take, take_first, event_step}
-use Rattle.rewriting_law.specs.CoreRun.{order_by, break_by, picks_of_take}
-use Rattle.rewriting_law.specs.Conditionals.{IsConditional, IsLostBy}
 use Rattle.rewriting_law.proofs.templates.RegisterLemmas.{equal}
 use Rattle.rewriting_law.proofs.runs.Turns.{byes_node}
 use Rattle.rewriting_law.proofs.runs.TurnTies.{resumed_blocks}
@@ -84,9 +53,7 @@ module _ (program : Program) (n : NodeMemory) where
   loads : (l : ProcessorState) (k : LoadKind) (r a : ℕ) (region : Region)
       → Handles n (load program l n k r a region)
   loads l k r a Memory = keeps _ refl refl
-  loads l k r a (StateOf line) = keeps _ refl refl
-  loads l k r a (Spill j) = keeps _ refl refl
-  loads l k r a Elsewhere = keeps _ refl refl
+  loads l k r a other = keeps _ refl refl
 
   reserves : (l : ProcessorState) (r a : ℕ) (region : Region)
       → Handles n (reserving a (load program l n WordLoad r a region))
@@ -107,9 +74,7 @@ module _ (program : Program) (n : NodeMemory) where
       → (is_conditional (store program l n w a value region).access ≡ false)
       × ((store program l n w a value region).local.reservation ≡ n.reservation)
   store_keeps l w a value Memory = (refl, refl)
-  store_keeps l w a value (StateOf line) = (refl, refl)
-  store_keeps l w a value (Spill j) = (refl, refl)
-  store_keeps l w a value Elsewhere = (refl, refl)
+  store_keeps l w a value other = (refl, refl)
 
   stores_if : (l : ProcessorState) (r a value : ℕ) (b : Bool) → holds n.reservation a ≡ b
       → Handles n (store_if program l n r a value b)
@@ -209,13 +174,8 @@ module _ (program : Program) (n : NodeMemory) where
       batches l (need_of_run stored) (reg l.registers low) (reg l.registers high)
   executes place at l (Prepare rs1) =
       let a = offset_address (reg l.registers rs1) (pos 0) in
-      either (is_aligned Word a) _ _ (prepares (n.state (line_of a)) place l a)
-      (keeps _ refl refl)
-  executes place at l (Far k) = keeps _ refl refl
-  executes place at l TrapFetch = keeps _ refl refl
-  executes place at l TrapOff = keeps _ refl refl
-  executes place at l TrapIllegal = keeps _ refl refl
-  executes place at l TrapEbreak = keeps _ refl refl
+      either (is_aligned Word a) _ _ (prepares (n.state (line_of a)) place l a) (keeps _ refl refl)
+  executes place at l other = keeps _ refl refl
 
   at_word : (l : ProcessorState) (o : Option ImageWord) → Handles n (execute_at program o l n)
   at_word l None = keeps _ refl refl
@@ -329,8 +289,7 @@ module _ (work : Work) (plan : List PlanEntry) (c : Core) (i a : ℕ)
               ∙ ap (λ o. break_by layout i (order_by (taker_in wire.message) o)
               n.local.reservation) is
               ∙ ap (λ o. break_by layout i (order_by o (Some (AtNode b row))) n.local.reservation)
-              taker.1
-              ∙ ap (λ z. break_by layout i
+              taker.1 ∙ ap (λ z. break_by layout i
               (cond z (Some (record { block = b; requester = taker.0 })) None)
               n.local.reservation) clears
               ∙ ap (break_by layout i (Some (record { block = b; requester = taker.0 }))) had
@@ -357,8 +316,7 @@ module _ (work : Work) (plan : List PlanEntry) (c : Core) (i a : ℕ)
         absurd (gone (ap (λ z. cond z (cleared layout b n.local.reservation) n.local.reservation)
         clears ∙ had))
 
-    by_row : (o : Option Row)
-        → row_of layout n.me (holding layout n) j wire.message ≡ o
+    by_row : (o : Option Row) → row_of layout n.me (holding layout n) j wire.message ≡ o
         → (by_row_or layout n1 o).node.local.reservation ≢ Some a → Breaks
     by_row None is gone = absurd (gone had)
     by_row (Some (AtHome b row)) is gone = absurd (gone had)

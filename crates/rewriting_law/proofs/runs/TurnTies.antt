@@ -1,30 +1,12 @@
 -- A node's turn in a core, beside what it changes of the node's blocks and of the lists.
 use Rattle.std.proofs.Common.{◌≡◌, ℕ, true, false, cond, eqb, List, [], ◌∷◌, ◌++◌, Option, Some, None, refl, sym, ap, ◌∙◌, subst, append-nil}
 use Rattle.std.specs.Prelude.{unwrap_or, ◌&&◌}
-use Rattle.block_layout.specs.Layout.{Shape, block_of, first_line}
-use Rattle.block_layout.specs.Update.{changed}
-use Rattle.buf_pool.specs.Pool.{empty_buffer}
-use Rattle.state_table.specs.StateByte.{state_with}
-use Rattle.home_directory.specs.dsm_messages.declared.messages.Need.{Need}
-use Rattle.home_directory.specs.dsm_messages.declared.messages.Message.{Message}
-use Rattle.home_directory.specs.dsm_messages.declared.messages.Message.TheVariants.{Read, Write, FwdRead, FwdWrite, Inval, Data, Grant, Ack, Done, Bye}
-use Rattle.home_directory.specs.dsm_messages.declared.messages.Post.{Post}
-use Rattle.home_directory.specs.dsm_messages.declared.messages.Wire.{Wire}
-use Rattle.home_directory.specs.declared.wait.Wait.{Wait}
-use Rattle.home_directory.specs.Table.{LocalBlock, Miss, want_row}
-use Rattle.dsm_protocol.specs.miss_handlers.Effects.{block_facts}
-use Rattle.dsm_protocol.specs.miss_handlers.Rows.{Row, AtHome, AtNode, row_of}
-use Rattle.rv32_program.specs.Program.{line_of}
-use Rattle.templates.specs.declared.plans.PlanEntry.{PlanEntry}
-use Rattle.dsm_protocol.specs.World.{local_block, messages_to, with_list as without_first, with_sends}
+use Rattle.rewriting_law.proofs.Names.{Shape, block_of, first_line, changed, empty_buffer, state_with, Need, Message, Bye, Post, Wire, Wait, LocalBlock, Miss, want_row, block_facts, Row, AtHome, AtNode, row_of, line_of, PlanEntry, local_block, messages_to, with_sends, Work, Node, NodeMemory, Want, Phase, word_outcome, word_step, Turn, silent, block_at, holding, with_state, with_miss, want_in, want_all, after_word, by_row_or, handled, resumed, Core, wires_to, with_turn, messages_of}
+use Rattle.dsm_protocol.specs.World.{with_list as without_first}
 use Rattle.dsm_protocol.proofs.ByAddress.{bytes_in}
-use Rattle.dsm_protocol.specs.node_model.Node.{Work, Node, NodeMemory, Want, Phase, Running, Resumed, Waiting, Ended, word_outcome, word_step}
-use Rattle.dsm_protocol.specs.node_model.Turns.{Turn, silent, block_at, holding, with_state, with_miss, want_in, want_all, after_word, by_row_or, handled, has_no_wait, resumed}
-use Rattle.dsm_protocol.specs.node_model.Core.{Core, wires_to, with_turn}
-use Rattle.rewriting_law.specs.ProtocolLists.{messages_of}
 use Rattle.rewriting_law.proofs.one_memory.Sharing.{with_local, is_same, local_here}
 use Rattle.rewriting_law.proofs.protocol_side.ProtocolSide.{Handled}
-use Rattle.rewriting_law.proofs.runs.Turns.{goes_on_from}
+use Rattle.rewriting_law.proofs.runs.Turns.{resumed_is}
 use Rattle.rewriting_law.proofs.protocol_side.Spending.{Counts, no_counts}
 use Rattle.rewriting_law.proofs.protocol_side.Directory.{Rest, world_of, missed, miss_in, took, directory}
 use Rattle.rewriting_law.proofs.protocol_side.Blocks.{row_own}
@@ -42,15 +24,13 @@ sent stamp k (p ∷ ps) = (elim (eqb p.to k)
       | false ↦ sent stamp k ps
     ])
 
-sent_behind : (stamp k : ℕ) (ps more : List Post)
-    → messages_of (wires_to stamp k (ps ++ more))
+sent_behind : (stamp k : ℕ) (ps more : List Post) → messages_of (wires_to stamp k (ps ++ more))
     ≡ messages_of (wires_to stamp k ps) ++ messages_to k more
 sent_behind stamp k [] more = sent stamp k more
 sent_behind stamp k (p ∷ ps) more = (elim (eqb p.to k)
     as (λ t. messages_of (cond t
     (record { stamp = stamp; message = p.message } ∷ wires_to stamp k (ps ++ more))
-    (wires_to stamp k (ps ++ more)))
-    ≡ messages_of (cond t
+    (wires_to stamp k (ps ++ more))) ≡ messages_of (cond t
     (record { stamp = stamp; message = p.message } ∷ wires_to stamp k ps) (wires_to stamp k ps))
     ++ messages_to k more) [
       | true ↦ ap (λ ms. p.message ∷ ms) (sent_behind stamp k ps more)
@@ -62,8 +42,7 @@ sent_more : (stamp k : ℕ) (ps more : List Post) (ws : List Wire)
     → messages_of (ws ++ wires_to stamp k (ps ++ more))
     ≡ messages_of (ws ++ wires_to stamp k ps) ++ messages_to k more
 sent_more stamp k ps more [] = sent_behind stamp k ps more
-sent_more stamp k ps more (w ∷ ws) =
-    ap (λ ms. w.message ∷ ms) (sent_more stamp k ps more ws)
+sent_more stamp k ps more (w ∷ ws) = ap (λ ms. w.message ∷ ms) (sent_more stamp k ps more ws)
 
 -- 2. A core without stamps
 
@@ -230,8 +209,7 @@ module _ (c : Core) (i : ℕ) where
 
   -- 3. A word, and its wants
 
-  pub word_turned : (work : Work) (counts : Counts)
-      → IsTurn c i (after_word work (c.nodes i))
+  pub word_turned : (work : Work) (counts : Counts) → IsTurn c i (after_word work (c.nodes i))
       (record { local = (word_outcome work (c.nodes i)).local; rest = rest_at counts c })
   word_turned work counts =
       let n = word_step work (c.nodes i) in
@@ -275,8 +253,7 @@ module _ (c : Core) (i : ℕ) where
                   | false ↦ refl
                 ]) ∙ h.rest.waiting x;
             occupancy = λ x. (elim (eqb x i)
-                as (λ z. (cond z n (c.nodes x)).occupancy
-                ≡ (cond z t.node (c.nodes x)).occupancy) [
+                as (λ z. (cond z n (c.nodes x)).occupancy ≡ (cond z t.node (c.nodes x)).occupancy) [
                   | true ↦ refl
                   | false ↦ refl
                 ]) ∙ h.rest.occupancy x;
@@ -292,8 +269,7 @@ module _ (c : Core) (i : ℕ) where
         }
 
     pub want_turned : (locals : ℕ → NodeMemory) (t : Turn) (u : Handled Rest) (b : ℕ) (need : Need)
-        → IsTurn c i t u
-        → IsTurn c i (want_in layout t need (Some b))
+        → IsTurn c i t u → IsTurn c i (want_in layout t need (Some b))
         ((directory layout).want (with_local locals i u.local) u.rest i b need)
     want_turned locals t u b need h =
         let here = local_here locals i u.local in
@@ -330,8 +306,7 @@ module _ (c : Core) (i : ℕ) where
         found.0.1 ∙ ap (λ o. Some (unwrap_or o 0)) (sym found.0.1) in
         let next = ask layout work plan (directory layout) locals i u w in
         wants_turned work plan locals ws (want_in layout t w.need (block_of layout (line_of w.at)))
-        next found.1
-        (subst (λ o. IsTurn c i (want_in layout t w.need o) next) (sym is)
+        next found.1 (subst (λ o. IsTurn c i (want_in layout t w.need o) next) (sym is)
         (want_turned locals t u (block_wanted layout work plan (directory layout) w) w.need h))
 
   -- 4. A message
@@ -355,10 +330,7 @@ module _ (c : Core) (i : ℕ) where
         ≡ without_first (λ x y. messages_of (before x y)) j i (messages_of wires) x y
     list_taken x y = ap messages_of (lists x y) ∙ (elim (eqb x j && eqb y i)
         as (λ z. messages_of (cond z wires (before x y))
-        ≡ cond z (messages_of wires) (messages_of (before x y))) [
-          | true ↦ refl
-          | false ↦ refl
-        ])
+        ≡ cond z (messages_of wires) (messages_of (before x y))) [ true ↦ refl | false ↦ refl ])
 
     list_answered : (stamp : ℕ) (ps : List Post) (x y : ℕ) → messages_of
         (cond (eqb x i) (c.list x y ++ wires_to stamp y ps) (c.list x y))
@@ -375,8 +347,7 @@ module _ (c : Core) (i : ℕ) where
 
     module _ (n : Node) (same : SameParts (c.nodes i) n) where
       -- without a row
-      silent_turned : (m : Node) → SameParts n m
-          → IsTurn c i (silent m)
+      silent_turned : (m : Node) → SameParts n m → IsTurn c i (silent m)
           (took layout (c.nodes i).local rest_before i j (messages_of wires) None)
       silent_turned m still = record {
         local = still.local ∙ same.local;
@@ -390,8 +361,7 @@ module _ (c : Core) (i : ℕ) where
         };
       }
 
-      row_turned : (row : Option Row)
-          → IsTurn c i (by_row_or layout n row)
+      row_turned : (row : Option Row) → IsTurn c i (by_row_or layout n row)
           (took layout (c.nodes i).local rest_before i j (messages_of wires) row)
       row_turned None =
           silent_turned n (record {
@@ -433,8 +403,7 @@ module _ (c : Core) (i : ℕ) where
             };
           }
 
-      pub message_turned : (message : Message)
-          → IsTurn c i (handled layout n j message)
+      pub message_turned : (message : Message) → IsTurn c i (handled layout n j message)
           (took layout (c.nodes i).local rest_before i j (messages_of wires)
           (row_of layout n.me (holding layout n) j message))
       message_turned Bye = silent_turned (record n { byes = changed n.byes j true })
@@ -445,71 +414,26 @@ module _ (c : Core) (i : ℕ) where
             occupancy = refl;
             wait = refl;
           })
-      message_turned (Read b buf) =
-          row_turned (row_of layout n.me (holding layout n) j (Read b buf))
-      message_turned (Write b buf) =
-          row_turned (row_of layout n.me (holding layout n) j (Write b buf))
-      message_turned (FwdRead b r buf) =
-          row_turned (row_of layout n.me (holding layout n) j (FwdRead b r buf))
-      message_turned (FwdWrite b r k buf) =
-          row_turned (row_of layout n.me (holding layout n) j (FwdWrite b r k buf))
-      message_turned (Inval b r) =
-          row_turned (row_of layout n.me (holding layout n) j (Inval b r))
-      message_turned (Data b k buf) =
-          row_turned (row_of layout n.me (holding layout n) j (Data b k buf))
-      message_turned (Grant b k buf) =
-          row_turned (row_of layout n.me (holding layout n) j (Grant b k buf))
-      message_turned (Ack b) = row_turned (row_of layout n.me (holding layout n) j (Ack b))
-      message_turned (Done b) = row_turned (row_of layout n.me (holding layout n) j (Done b))
+      message_turned other = row_turned (row_of layout n.me (holding layout n) j other)
 
   -- 5. Going on
 
   pub resumed_blocks : (work : Work) (n : Node) (phase : Phase)
       → SameBlocks n (resumed work n phase)
-  resumed_blocks work n Running =
-      record {
+  resumed_blocks work n =
+      let same : SameBlocks n n = record {
         local = refl;
         entry = refl;
         waiting = refl;
         occupancy = refl;
         wait = refl;
         stamp = refl;
-      }
-  resumed_blocks work n Resumed =
-      record {
+      } in
+      resumed_is work n (SameBlocks n) same (λ resume. record {
         local = refl;
         entry = refl;
         waiting = refl;
         occupancy = refl;
         wait = refl;
         stamp = refl;
-      }
-  resumed_blocks work n (Ended end) =
-      record {
-        local = refl;
-        entry = refl;
-        waiting = refl;
-        occupancy = refl;
-        wait = refl;
-        stamp = refl;
-      }
-  resumed_blocks work n (Waiting resume) =
-      let on = goes_on_from work n resume in
-      (elim (has_no_wait work.layout n) as (λ z. SameBlocks n (cond z on n)) [
-        | true ↦ record {
-          local = refl;
-          entry = refl;
-          waiting = refl;
-          occupancy = refl;
-          wait = refl;
-          stamp = refl;
-        }
-        | false ↦ record {
-          local = refl;
-          entry = refl;
-          waiting = refl;
-          occupancy = refl;
-          wait = refl;
-          stamp = refl;
-        }
-      ])
+      })

@@ -1,14 +1,7 @@
 -- What a turn leaves of its node's processor.
-use Rattle.std.proofs.Common.{◌≡◌, ℕ, Bool, true, false, List, [], ◌∷◌, Option, Some, None, refl, ◌∙◌}
-use Rattle.block_layout.specs.Layout.{Shape, block_of}
-use Rattle.rv32_program.specs.Program.{line_of}
-use Rattle.home_directory.specs.dsm_messages.declared.messages.Need.{Need}
-use Rattle.home_directory.specs.dsm_messages.declared.messages.Message.{Message}
-use Rattle.home_directory.specs.dsm_messages.declared.messages.Message.TheVariants.{Read, Write, FwdRead, FwdWrite, Inval, Data, Grant, Ack, Done, Bye}
-use Rattle.home_directory.specs.Table.{Miss}
-use Rattle.dsm_protocol.specs.miss_handlers.Rows.{Row, AtHome, AtNode, row_of}
-use Rattle.dsm_protocol.specs.node_model.Node.{Work, Node, Want, Resume, Resumed, lane_resumed, tally_resumed, counts_after, stop_or}
-use Rattle.dsm_protocol.specs.node_model.Turns.{Turn, with_miss, want_in, want_all, with_byes, by_row_or, holding, handled}
+use Rattle.std.proofs.Common.{◌≡◌, ℕ, cond, Bool, true, false, List, [], ◌∷◌, Option, Some, None, refl, ◌∙◌}
+use Rattle.rewriting_law.proofs.Names.{Shape, block_of, line_of, Need, Message, Bye, Miss, Row, AtHome, AtNode, row_of, Work, Node, Want, Resume, Resumed, lane_resumed, tally_resumed, stop_or, Turn, with_miss, want_in, want_all, with_byes, by_row_or, holding, handled, Phase, Waiting, has_no_wait, resumed}
+use Rattle.dsm_protocol.specs.node_model.Node.{counts_after}
 
 -- a node's number, and where its processor is, are as before
 pub record SameProcessor (old new : Node) : Type 0 where
@@ -25,6 +18,17 @@ goes_on_from work n resume = record n {
   counts = counts_after (tally_resumed n.local resume) n.counts;
 }
 
+-- what holds of a node, and of it where its word goes on, holds once it has resumed
+pub resumed_is : (work : Work) (n : Node) (P : Node → Type 0) → P n
+    → ((resume : Resume) → P (goes_on_from work n resume)) → (phase : Phase)
+    → P (resumed work n phase)
+resumed_is work n P here on (Waiting resume) =
+    elim (has_no_wait work.layout n) as (λ z. P (cond z (goes_on_from work n resume) n)) [
+      | true ↦ on resume
+      | false ↦ here
+    ]
+resumed_is work n P here on other = here
+
 itself : (n : Node) → SameProcessor n n
 itself n = record { me = refl; lane = refl; executed = refl; phase = refl }
 
@@ -37,8 +41,7 @@ module _ (layout : Shape) where
   miss_same : (b : ℕ) (need : Need) (t : Turn) (miss : Option Miss)
       → SameProcessor t.node (with_miss layout b need t miss).node
   miss_same b need t None = itself t.node
-  miss_same b need t (Some miss) =
-      record { me = refl; lane = refl; executed = refl; phase = refl }
+  miss_same b need t (Some miss) = record { me = refl; lane = refl; executed = refl; phase = refl }
 
   want_same : (t : Turn) (need : Need) (o : Option ℕ)
       → SameProcessor t.node (want_in layout t need o).node
@@ -46,8 +49,7 @@ module _ (layout : Shape) where
   want_same t need (Some b) = miss_same b need t _
 
   -- what a node wants
-  pub wants_same : (ws : List Want) (t : Turn)
-      → SameProcessor t.node (want_all layout t ws).node
+  pub wants_same : (ws : List Want) (t : Turn) → SameProcessor t.node (want_all layout t ws).node
   wants_same [] t = itself t.node
   wants_same (w ∷ ws) t =
       let u = want_in layout t w.need (block_of layout (line_of w.at)) in
@@ -71,19 +73,4 @@ module _ (layout : Shape) where
   pub handled_same : (n : Node) (j : ℕ) (message : Message)
       → SameProcessor n (handled layout n j message).node
   handled_same n j Bye = record { me = refl; lane = refl; executed = refl; phase = refl }
-  handled_same n j (Read b buf) =
-      row_same n (row_of layout n.me (holding layout n) j (Read b buf))
-  handled_same n j (Write b buf) =
-      row_same n (row_of layout n.me (holding layout n) j (Write b buf))
-  handled_same n j (FwdRead b r buf) =
-      row_same n (row_of layout n.me (holding layout n) j (FwdRead b r buf))
-  handled_same n j (FwdWrite b r k buf) =
-      row_same n (row_of layout n.me (holding layout n) j (FwdWrite b r k buf))
-  handled_same n j (Inval b r) =
-      row_same n (row_of layout n.me (holding layout n) j (Inval b r))
-  handled_same n j (Data b k buf) =
-      row_same n (row_of layout n.me (holding layout n) j (Data b k buf))
-  handled_same n j (Grant b k buf) =
-      row_same n (row_of layout n.me (holding layout n) j (Grant b k buf))
-  handled_same n j (Ack b) = row_same n (row_of layout n.me (holding layout n) j (Ack b))
-  handled_same n j (Done b) = row_same n (row_of layout n.me (holding layout n) j (Done b))
+  handled_same n j other = row_same n (row_of layout n.me (holding layout n) j other)

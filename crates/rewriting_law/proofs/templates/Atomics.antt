@@ -1,28 +1,8 @@
 -- LR and the AMOs, behind the test of their line's state.
 use Rattle.std.proofs.Common.{◌≡◌, ℕ, ◌+◌, ◌%◌, Bool, true, false, Some, None, refl, sym, ap, ◌∙◌, subst, inr, lit<}
 use Rattle.std.specs.Prelude.{pos}
-use Rattle.rv32_decode.specs.declared.AmoOp.{AmoOp}
-use Rattle.rv32_decode.specs.declared.Instr.{Instr}
-use Rattle.rv32_decode.specs.declared.Instr.TheVariants.{Lr, Amo}
+use Rattle.rewriting_law.proofs.Names.{AmoOp, Instr, Lr, Amo, Word, is_aligned, amo, stored, Misaligned, Program, IsAccepted, class_at, is_mapped, is_writable, line_of, uses, offset_address, reg, load_value, private_after, Reserves, Updates, Processor, Exchanges, ReservesAt, UpdatesAt, exit_of_demand, request, request_unless, set_register, after_exchange, next_pc, Native, Always, Scratches, HasTwoScratches, committing, reloads, read_sequence, write_sequence, ProcessorState, NodeMemory, WordOutcome, Region, Memory, is_readable_state, is_writable_state, byte_at, region_of, load, store, reserving, update, lane_stored, native, execute}
 use Rattle.rv32_decode.specs.declared.LoadKind.TheVariants.{Word as WordLoad}
-use Rattle.rv32_decode.specs.declared.Width.TheVariants.{Word}
-use Rattle.rv32_decode.specs.Widths.{is_aligned}
-use Rattle.rv32_ops.specs.Operations.{amo}
-use Rattle.byte_range.specs.Memory.{stored}
-use Rattle.rv32_program.specs.declared.Exit.TheVariants.{Misaligned}
-use Rattle.rv32_program.specs.Program.{Program, IsAccepted, class_at, is_mapped, is_writable, line_of}
-use Rattle.rv32_program.specs.Liveness.{uses}
-use Rattle.rv32_program.specs.Targets.{offset_address}
-use Rattle.rv32_step.specs.Registers.{reg}
-use Rattle.rv32_step.specs.Memory.{load_value, private_after}
-use Rattle.rv32_step.specs.declared.Demand.TheVariants.{Reserves, Updates}
-use Rattle.rv32_step.specs.OneMemory.{Processor, Exchanges, ReservesAt, UpdatesAt, exit_of_demand, request, request_unless, set_register, after_exchange, next_pc}
-use Rattle.runtime_words.specs.declared.RtWord.TheVariants.{Native}
-use Rattle.templates.specs.declared.commits.CommitKind.TheVariants.{Always}
-use Rattle.templates.specs.declared.plans.Scratches.{Scratches}
-use Rattle.templates.specs.Plans.{HasTwoScratches}
-use Rattle.templates.specs.Sequences.{committing, reloads, read_sequence, write_sequence}
-use Rattle.dsm_protocol.specs.node_model.Node.{ProcessorState, NodeMemory, WordOutcome, Region, Memory, is_readable_state, is_writable_state, byte_at, region_of, load, store, reserving, update, lane_stored, native, execute}
 use Rattle.rewriting_law.proofs.templates.Does.{OfPlace, AtHead, Rest, lane_at, word_seen, Commits, Leads, FirstLeads, Does}
 use Rattle.rewriting_law.proofs.templates.Mids.{Hide, Shown, Mid, with_reg, mid_at, read_shown}
 use Rattle.rewriting_law.proofs.templates.Checked.{asks, memory_at, hides_of, load_outcome, refused, source_shown, destination_shown, low_if_mapped, value_same_as, sets_both, holds_store, scratch_back, leaves}
@@ -68,8 +48,7 @@ module _ (program : Program) (accepted : IsAccepted program) (a : ℕ) (q : Proc
             (read_shown program a hides q l rs1 m lr_base (uses lr c (inr (0, lit< tt, refl))))
 
         go : (n' : NodeMemory) → is_readable_state (n'.state (line_of reserved)) ≡ true → (b : Bool)
-            → is_aligned Word reserved ≡ b
-            → FirstLeads program OfPlace a j at
+            → is_aligned Word reserved ≡ b → FirstLeads program OfPlace a j at
             (Does program OfPlace a (j + 1) (next_pc at) (reloads regs))
             (committing (Native lr) (reloads regs)) q l n'
         go n' readable false f = leaves program accepted OfPlace a j at K q l n'
@@ -157,8 +136,7 @@ module _ (program : Program) (accepted : IsAccepted program) (a : ℕ) (q : Proc
             (uses update_word c (inr (1, lit< tt, refl))))
 
         go : (n' : NodeMemory) → is_writable_state (n'.state (line_of address)) ≡ true → (b : Bool)
-            → is_aligned Word address ≡ b
-            → FirstLeads program OfPlace a j at
+            → is_aligned Word address ≡ b → FirstLeads program OfPlace a j at
             (Does program OfPlace a (j + 1) (next_pc at) (reloads regs))
             (committing (Native update_word) (reloads regs)) q l n'
         go n' licence false f = leaves program accepted OfPlace a j at K q l n'
@@ -181,8 +159,7 @@ module _ (program : Program) (accepted : IsAccepted program) (a : ℕ) (q : Proc
             ≡ update program l n' o rd address value
             (load_value WordLoad (byte_at program l n') address) = rw f refl in
             let is : execute program a at (Native update_word) l n' ≡ done =
-            acts n' ∙ aligned
-            ∙ ap (λ z. update program l n' o rd address value z)
+            acts n' ∙ aligned ∙ ap (λ z. update program l n' o rd address value z)
             (value_same_as program accepted WordLoad q l n' address f mapped m.private)
             ∙ ap (λ z. updated_in program l n' o rd address value old z)
             (memory_at address (low_if_mapped program accepted address mapped)) in

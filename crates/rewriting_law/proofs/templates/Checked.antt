@@ -3,44 +3,13 @@ use Rattle.std.proofs.Common.{◌≡◌, ◌≢◌, ℕ, ◌+◌, ◌/◌, ◌%�
 use Rattle.std.specs.Prelude.{ℤ}
 use Rattle.std.specs.Option.{option_map_or}
 use Rattle.std.proofs.lemmas.Bool.Decides.{eqb_tells, leb_tells, nat_tests}
-use Rattle.rv32_decode.specs.Registers.{destination}
-use Rattle.rv32_decode.specs.declared.Instr.{Instr}
-use Rattle.rv32_decode.specs.declared.Instr.TheVariants.{Load, Store}
-use Rattle.rv32_decode.specs.declared.LoadKind.{LoadKind}
-use Rattle.rv32_decode.specs.declared.Width.{Width}
-use Rattle.rv32_decode.specs.declared.Width.TheVariants.{Byte, Half, Word}
-use Rattle.rv32_ops.specs.Operations.{extend}
-use Rattle.block_layout.specs.Layout.{Shape}
-use Rattle.rv32_program.specs.declared.Class.{Class}
-use Rattle.rv32_program.specs.declared.Class.TheVariants.{Shared, ReadOnly, Private, Unmapped}
-use Rattle.rv32_program.specs.declared.Exit.{Exit}
-use Rattle.rv32_program.specs.declared.Exit.TheVariants.{Misaligned, Access as NoAccess}
-use Rattle.rv32_step.specs.declared.Demand.TheVariants.{Loads, Stores}
-use Rattle.rv32_step.specs.Registers.{reg, put}
-use Rattle.rv32_step.specs.Demands.{demand_of}
-use Rattle.rv32_program.specs.Targets.{offset_address}
-use Rattle.rv32_decode.specs.Widths.{width_of, is_aligned}
-use Rattle.byte_range.specs.Memory.{raw, stored}
-use Rattle.rv32_step.specs.Memory.{load_value, byte_by, private_after}
-use Rattle.rv32_program.specs.Program.{Program, IsAccepted, class_at, is_mapped, is_writable, line_of}
-use Rattle.rv32_program.specs.Liveness.{Uses, Live, uses, passes, Next as Follows}
-use Rattle.rv32_step.specs.Breaks.{stores_in, is_in_block}
-use Rattle.rv32_step.specs.OneMemory.{Processor, Reads, Writes, Becomes, LoadsFrom, StoresTo, exit_of_access, exit_of_demand, request, request_at, request_for, request_unless, with_exit, set_register, after_store, next_pc}
-use Rattle.runtime_words.specs.declared.RtWord.TheVariants.{Native, MissR, MissW}
-use Rattle.templates.specs.declared.commits.CommitKind.{CommitKind}
-use Rattle.templates.specs.declared.commits.CommitKind.TheVariants.{Never, Always}
-use Rattle.templates.specs.declared.plans.Scratch.{Scratch}
-use Rattle.templates.specs.declared.plans.Scratches.{Scratches}
-use Rattle.templates.specs.Plans.{IsScratch, HasTwoScratches}
-use Rattle.templates.specs.Sequences.{SequenceItem, committing, checking, spills, reloads, spill, reload, with_word}
-use Rattle.home_directory.specs.dsm_messages.declared.messages.Need.TheVariants.{Read, Write}
-use Rattle.home_directory.specs.flag_memory.Flag.{flag_byte}
-use Rattle.dsm_protocol.specs.node_model.Node.{ProcessorState, NodeMemory, WordOutcome, Next, Waits, PastWord, Nothing_counted, FalseMiss, only_moves, exit_by, Memory, region_of, byte_at, is_readable_state, is_writable_state, local_stored, lane_stored, native, miss_r, miss_w, execute}
+use Rattle.rewriting_law.proofs.Names.{destination, Instr, Load, Store, LoadKind, Width, Byte, Half, Word, extend, Shape, Class, Shared, ReadOnly, Private, Unmapped, Exit, Misaligned, Loads, Stores, reg, put, demand_of, offset_address, width_of, is_aligned, raw, stored, load_value, byte_by, private_after, Program, IsAccepted, class_at, is_mapped, is_writable, line_of, Uses, Live, uses, passes, stores_in, is_in_block, Processor, Reads, Writes, Becomes, LoadsFrom, StoresTo, exit_of_access, exit_of_demand, request, request_at, request_for, request_unless, with_exit, set_register, after_store, next_pc, Native, MissR, MissW, CommitKind, Never, Always, Scratch, Scratches, IsScratch, HasTwoScratches, SequenceItem, committing, checking, spills, reloads, spill, reload, with_word, Read, Write, flag_byte, ProcessorState, NodeMemory, WordOutcome, Next, Waits, PastWord, Nothing_counted, FalseMiss, only_moves, exit_by, Memory, region_of, byte_at, is_readable_state, is_writable_state, local_stored, lane_stored, native, miss_r, miss_w, execute, commits_by}
+use Rattle.rv32_program.specs.declared.Exit.TheVariants.{Access as NoAccess}
+use Rattle.rv32_program.specs.Liveness.{Next as Follows}
 use Rattle.rewriting_law.proofs.templates.RegisterLemmas.{apart, equal, put_other, put_both}
-use Rattle.rewriting_law.specs.CoreRun.{commits_by}
 use Rattle.rewriting_law.proofs.templates.States.{Suits, Later, ReadLook, Gone, Readable, Unreadable, read_look, WriteLook, Fixed, Writable, Unwritable, write_look}
 use Rattle.rewriting_law.proofs.templates.Does.{SequenceKind, OfPlace, place_of, AtHead, Rest, byte_seen, lane_at, may_turn, IsWhere, is_where, StandsToStore, Commits, Continues, Leads, FirstLeads, Does}
-use Rattle.rewriting_law.proofs.templates.Mids.{Hide, Shown, Dead, In, Holds, IsHidden, hide, shown, hiding, Free, Mid, with_reg, hide_hidden, spill_0, spill_1, the_only, mid_at, read_shown, spill_does, reload_does}
+use Rattle.rewriting_law.proofs.templates.Mids.{Hide, Shown, Dead, In, Holds, IsHidden, hide, shown, hiding, Free, Mid, with_reg, hide_hidden, spill_0, spill_1, the_only, mid_at, read_shown, spill_does, reload_does, shown_mid, shown_head}
 
 -- what the processor asks for at a place
 pub asks : (program : Program) (a : ℕ) (q : Processor) (i : Instr) → q.pc ≡ a
@@ -179,18 +148,10 @@ module _ (program : Program) (accepted : IsAccepted program) where
       let s = regs.s.register in
       let t = regs.t.register in
       spill_does program OfPlace a regs.s.spilled 0 s k at shown q l n (spill 1 regs.t rest) spill_0
-      refl
-      (λ r. tt) (not_live program a i regs.s c two.s) (record {
-        place = head.place;
-        running = head.running;
-        agree = head.agree;
-        private = head.private;
-        written = head.written;
-      }) al
+      refl (λ r. tt) (not_live program a i regs.s c two.s) (shown_mid program a q l head) al
       (λ j1 to1 l1 e1 al1 m1.
       spill_does program OfPlace a regs.t.spilled 1 t j1 to1 (hiding regs.s.spilled 0 s shown) q l1
-      n rest
-      spill_1 (rw (apart t s (λ z. two.apart (sym z))) refl) (free_first regs.s.spilled s)
+      n rest spill_1 (rw (apart t s (λ z. two.apart (sym z))) refl) (free_first regs.s.spilled s)
       (not_live program a i regs.t c two.t) m1 al1
       (λ j2 to2 l2 e2 al2 m2. next j2 to2 l2 al2 (record {
         place = m2.place;
@@ -220,13 +181,7 @@ module _ (program : Program) (accepted : IsAccepted program) where
       reload_does program OfPlace a regs.t.spilled 1 t j1 to1 (a + 4) shown q l1 n [] spill_1
       two.t.nonzero refl m1 (λ j2 to2 l2 e2 m2. (
         (i, c),
-        record {
-          place = m2.place;
-          running = m2.running;
-          agree = m2.agree;
-          private = m2.private;
-          written = m2.written;
-        },
+        shown_head program (a + 4) q l2 m2,
       )))
 
   shown_in : (regs : Scratches) (r : ℕ) → r ≢ regs.s.register → r ≢ regs.t.register
@@ -308,8 +263,7 @@ module _ (program : Program) (accepted : IsAccepted program) where
             → FirstLeads program OfPlace a j at (Does program OfPlace a (j + 1) (next_pc at) rest)
             (checking (MissR w rs1 imm) rest) q l n
         leave e does h = leaves OfPlace a j at K q l n (execute program a at (MissR w rs1 imm) l n)
-            Never e
-            (acts ∙ does) place (ends e h)
+            Never e (acts ∙ does) place (ends e h)
 
         look : is_aligned w x ≡ true → ReadLook (class_at program x) (n.state (line_of x))
             → FirstLeads program OfPlace a j at (Does program OfPlace a (j + 1) (next_pc at) rest)
@@ -375,8 +329,7 @@ module _ (program : Program) (accepted : IsAccepted program) where
             → FirstLeads program OfPlace a j at (Does program OfPlace a (j + 1) (next_pc at) rest)
             (checking (MissW w rs1 imm) rest) q l n
         leave e does h = leaves OfPlace a j at K q l n (execute program a at (MissW w rs1 imm) l n)
-            Never e
-            (acts ∙ does) place (ends e h)
+            Never e (acts ∙ does) place (ends e h)
 
         look : is_aligned w x ≡ true → WriteLook (class_at program x) (n.state (line_of x))
             → FirstLeads program OfPlace a j at (Does program OfPlace a (j + 1) (next_pc at) rest)
@@ -415,8 +368,7 @@ module _ (program : Program) (accepted : IsAccepted program) where
         → Refuses program q w x (is_writable (class_at program x))
         → ((n' : NodeMemory) → is_writable_state (n'.state (line_of x)) ≡ true
         → is_writable (class_at program x) ≡ true → is_mapped (class_at program x) ≡ true
-        → Behind j at l n')
-        → Does program OfPlace a j at (checking (MissW w rs1 imm) rest) 0 q l n
+        → Behind j at l n') → Does program OfPlace a j at (checking (MissW w rs1 imm) rest) 0 q l n
     write_missed j at l n is stores ends next = λ m since.
         write_missed_now j at l m since.0 is stores ends next
 
@@ -471,8 +423,7 @@ module _ (program : Program) (accepted : IsAccepted program) where
 
     -- one from below the state table gives what the node has there
     pub load_gives : (n : NodeMemory) (p at : ℕ) (l : ProcessorState)
-        → is_aligned (width_of k) load_address ≡ true
-        → load_address < 2 ^ 31 → Mid program h a q l
+        → is_aligned (width_of k) load_address ≡ true → load_address < 2 ^ 31 → Mid program h a q l
         → execute program p at (Native (Load k rd rs1 imm)) l n
         ≡ load_outcome l n k rd load_address (load_value k (byte_at program l n) load_address)
     load_gives n p at l f low m = load_acts n p at l m ∙ rw (f, memory_at load_address low) refl
@@ -534,8 +485,7 @@ module _ (program : Program) (accepted : IsAccepted program) where
         (rest : List SequenceItem) → place_of kind s j ≡ a → h rd ≡ Shown
         → is_aligned (width_of k) load_address ≡ true
         → is_mapped (class_at program load_address) ≡ true
-        → is_readable_state (n.state (line_of load_address)) ≡ true
-        → Mid program h a q l
+        → is_readable_state (n.state (line_of load_address)) ≡ true → Mid program h a q l
         → ((m : NodeMemory) → Later n m → (x y : ℕ)
         → Mid program h (a + 4) (set_register q rd (seen_value m))
         (lane_at x y (with_reg l rd (seen_value m)))
@@ -624,11 +574,9 @@ module _ (program : Program) (accepted : IsAccepted program) where
         by n' licence later true f =
             let done : WordOutcome = record {
               lane = lane;
-              local =
-                  local_stored program n' w store_address stored_value;
+              local = local_stored program n' w store_address stored_value;
               access = Writes w store_address stored_value;
-              printed =
-                  None;
+              printed = None;
               tally = Nothing_counted;
               move = Next;
             } in

@@ -1,30 +1,13 @@
 -- A conditional store, behind the word that comes before it.
 use Rattle.std.proofs.Common.{◌≡◌, ℕ, ◌+◌, Bool, true, false, [], Some, None, refl, sym, ap, ◌∙◌, subst, inr, arith, lit<}
 use Rattle.std.specs.Prelude.{pos, ◌&&◌, not}
-use Rattle.rv32_decode.specs.declared.Instr.{Instr}
-use Rattle.rv32_decode.specs.declared.Instr.TheVariants.{Sc}
-use Rattle.rv32_decode.specs.declared.Width.TheVariants.{Word}
-use Rattle.rv32_decode.specs.Widths.{is_aligned}
-use Rattle.byte_range.specs.Memory.{stored}
-use Rattle.llsc.specs.Reservation.{holds}
-use Rattle.rv32_program.specs.declared.Class.TheVariants.{Shared}
-use Rattle.rv32_program.specs.declared.Exit.TheVariants.{Misaligned, Access as NoAccess}
-use Rattle.rv32_program.specs.Program.{Program, IsAccepted, class_at, is_mapped, is_writable, line_of}
-use Rattle.rv32_program.specs.Liveness.{uses, passes}
-use Rattle.rv32_program.specs.Targets.{offset_address}
-use Rattle.rv32_step.specs.Registers.{reg}
-use Rattle.rv32_step.specs.Memory.{private_after}
-use Rattle.rv32_step.specs.declared.Demand.TheVariants.{StoresIf}
-use Rattle.rv32_step.specs.OneMemory.{Processor, StoresWhere, WritesIf, exit_of_demand, request, request_unless, after_conditional, next_pc}
-use Rattle.runtime_words.specs.declared.RtWord.TheVariants.{Native, Prepare}
-use Rattle.templates.specs.declared.commits.CommitKind.TheVariants.{Never, Always}
-use Rattle.templates.specs.Sequences.{committing, conditional_sequence}
-use Rattle.home_directory.specs.dsm_messages.declared.messages.Need.TheVariants.{Write}
-use Rattle.dsm_protocol.specs.node_model.Node.{ProcessorState, NodeMemory, WordOutcome, Next, Waits, PastWord, Region, Memory, only_moves, is_fixed_state, is_writable_state, region_of, set_register, store, store_if, prepare, native, execute}
+use Rattle.rewriting_law.proofs.Names.{Instr, Sc, Word, is_aligned, stored, holds, Shared, Misaligned, Program, IsAccepted, class_at, is_mapped, is_writable, line_of, uses, passes, offset_address, reg, private_after, StoresIf, Processor, StoresWhere, WritesIf, exit_of_demand, request, request_unless, after_conditional, next_pc, Native, Prepare, Never, Always, committing, conditional_sequence, Write, ProcessorState, NodeMemory, WordOutcome, Next, Waits, PastWord, Region, Memory, only_moves, is_fixed_state, is_writable_state, region_of, store, store_if, prepare, native, execute}
+use Rattle.rv32_program.specs.declared.Exit.TheVariants.{Access as NoAccess}
+use Rattle.dsm_protocol.specs.node_model.Node.{set_register}
 use Rattle.rewriting_law.proofs.templates.RegisterLemmas.{put_both}
 use Rattle.rewriting_law.proofs.templates.States.{Suits, WriteLook, Fixed, Writable, Unwritable, write_look}
 use Rattle.rewriting_law.proofs.templates.Does.{OfPlace, AtHead, Rest, lane_at, StandsToStore, Commits, CommitsConditional, Leads, FirstLeads, Does}
-use Rattle.rewriting_law.proofs.templates.Mids.{the_only}
+use Rattle.rewriting_law.proofs.templates.Mids.{the_only, head_at}
 use Rattle.rewriting_law.proofs.templates.Checked.{asks, memory_at, low_if_mapped, next_is, leaves, refused, stands_to_store}
 
 -- a conditional store in a region
@@ -98,13 +81,11 @@ module _ (program : Program) (accepted : IsAccepted program) (a : ℕ) (q : Proc
         let r = store_in program l n rd address value Memory true in
         let K : Processor → Type 0 =
         λ (p : Processor). (x y : ℕ) → Does program OfPlace a (j + 1) (next_pc at) [] 0 p
-        (lane_at x y
-        r.lane) r.local in (
+        (lane_at x y r.lane) r.local in (
           head.place,
           licence,
           subst (Commits program K q n (store_in program l n rd address value Memory true)) (sym
-              ask)
-              (subst (CommitsConditional program K q n (store_in program l n rd address value
+              ask) (subst (CommitsConditional program K q n (store_in program l n rd address value
               Memory true) rd address value) (sym is)
               (refl, refl, refl, λ x y. behind (next_pc at) l true head (j + 1) x y)),
         )
@@ -112,19 +93,16 @@ module _ (program : Program) (accepted : IsAccepted program) (a : ℕ) (q : Proc
         let r = store_in program l n rd address value Memory false in
         let K : Processor → Type 0 =
         λ (p : Processor). (x y : ℕ) → Does program OfPlace a (j + 1) (next_pc at) [] 0 p
-        (lane_at x y
-        r.lane) r.local in (
+        (lane_at x y r.lane) r.local in (
           head.place,
           licence,
           subst (Commits program K q n (store_in program l n rd address value Memory false)) (sym
-              ask)
-              (subst (CommitsConditional program K q n (store_in program l n rd address value
+              ask) (subst (CommitsConditional program K q n (store_in program l n rd address value
               Memory false) rd address value) (sym is)
               (refl, refl, refl, λ x y. behind (next_pc at) l false head (j + 1) x y)),
         )
 
-    sc_word : (j at : ℕ) (l : ProcessorState)
-        → (holds n.reservation address ≡ true
+    sc_word : (j at : ℕ) (l : ProcessorState) → (holds n.reservation address ≡ true
         → is_writable_state (n.state (line_of address)) ≡ true)
         → is_writable (class_at program address) ≡ true
         → is_mapped (class_at program address) ≡ true → AtHead program a q l
@@ -145,8 +123,7 @@ module _ (program : Program) (accepted : IsAccepted program) (a : ℕ) (q : Proc
             → FirstLeads program OfPlace a j at (Does program OfPlace a (j + 1) (next_pc at) [])
             (committing (Native sc) []) q l n
         go false f = leaves program accepted OfPlace a j at K q l n
-            (execute program a at (Native sc) l n)
-            Always
+            (execute program a at (Native sc) l n) Always
             (Misaligned a) (acts ∙ rw f refl) head.place (refused program accepted a q sc (Misaligned a)
             head.place c (rw f (ap (λ z. Some (Misaligned z)) head.place)))
         go true f =
@@ -164,8 +141,7 @@ module _ (program : Program) (accepted : IsAccepted program) (a : ℕ) (q : Proc
             ∙ ap (λ z. store_in program l n rd address value z b) (memory_at address (low_if_mapped
             program accepted address mapped)) in
             subst (λ (r : WordOutcome). Leads program OfPlace a j at K q n r Always r.move) (sym is)
-            (leads j
-            at l b licence head ask refl)
+            (leads j at l b licence head ask refl)
 
   abbrev Prepares : ℕ → ProcessorState → NodeMemory → Type 0
   Prepares at l n =
@@ -188,21 +164,15 @@ module _ (program : Program) (accepted : IsAccepted program) (a : ℕ) (q : Proc
       acts n = ap (λ z. prepare a l n (offset_address z (pos 0))) (same_address l head)
 
       -- at the store, by the node as it is then
-      word : (n' : NodeMemory)
-          → (holds n'.reservation address ≡ true
+      word : (n' : NodeMemory) → (holds n'.reservation address ≡ true
           → is_writable_state (n'.state (line_of address)) ≡ true)
           → is_writable (class_at program address) ≡ true
           → is_mapped (class_at program address) ≡ true → (x y : ℕ)
           → Does program OfPlace a 1 (next_pc at) (committing (Native sc) []) 0 q (lane_at x y l) n'
       word n' licence writable mapped x y = λ n2 since.
           sc_word n2 1 (next_pc at) (lane_at x y l) (λ h. (since.1 refl).writes (line_of address)
-          (licence ((since.1 refl).reserved address h))) writable mapped (record {
-            place = head.place;
-            running = head.running;
-            agree = head.agree;
-            private = head.private;
-            written = head.written;
-          })
+          (licence ((since.1 refl).reserved address h))) writable mapped
+          (head_at program a q l x y head)
 
       passes : (n : NodeMemory) → execute program a at (Prepare rs1) l n ≡ only_moves l n Next
           → (holds n.reservation address ≡ true

@@ -2,34 +2,8 @@
 use Rattle.std.proofs.Common.{◌≡◌, ℕ, zero, suc, ◌+◌, ◌-◌, ◌⊎◌, ◌≤◌, Bool, true, false, List, [], ◌∷◌, length, Some, None, sym, ap, ◌∙◌}
 use Rattle.std.specs.Prelude.{if◌then◌else◌, ◌||◌}
 use Rattle.std.specs.Option.{option_map_or}
-use Rattle.rv32_decode.specs.declared.Instr.{Instr}
-use Rattle.rv32_decode.specs.declared.Instr.TheVariants.{Ecall}
-use Rattle.rv32_decode.specs.declared.LoadKind.TheVariants.{ByteU, Word as WordLoad}
-use Rattle.rv32_decode.specs.declared.Width.TheVariants.{Word}
-use Rattle.rv32_ops.specs.Operations.{amo}
-use Rattle.block_layout.specs.Layout.{Shape}
-use Rattle.llsc.specs.Reservation.{holds}
-use Rattle.rv32_program.specs.declared.Class.TheVariants.{Shared}
-use Rattle.rv32_program.specs.Program.{Program, class_at, line_of}
-use Rattle.rv32_program.specs.Liveness.{Live}
-use Rattle.rv32_step.specs.Registers.{reg}
-use Rattle.rv32_step.specs.Memory.{load_value, byte_by}
-use Rattle.rv32_step.specs.Breaks.{is_in_block, stands_at_store, RunsToStore}
-use Rattle.rv32_step.specs.OneMemory.{Processor, Access, Nothing, Reads, Writes, WritesIf, Exchanges, Request, Becomes, Prints, LoadsFrom, StoresTo, ReservesAt, StoresWhere, UpdatesAt, request, with_exit, after_print, after_store, after_exchange, after_conditional, set_register, next_pc}
-use Rattle.runtime_words.specs.declared.RtWord.TheVariants.{MissR, MissW, Poll, Call, Batch, Prepare}
-use Rattle.templates.specs.declared.commits.CommitKind.{CommitKind}
-use Rattle.templates.specs.declared.commits.CommitKind.TheVariants.{Never}
-use Rattle.templates.specs.declared.places.Part.TheVariants.{Head, Fast}
-use Rattle.templates.specs.declared.plans.PlanEntry.{PlanEntry}
-use Rattle.templates.specs.Places.{IsPlace}
-use Rattle.templates.specs.Plans.{closes_loop}
-use Rattle.templates.specs.Sequences.{SequenceItem, ItemWord, Runs, GoesTo, items_in}
-use Rattle.dsm_protocol.specs.jump_map.Image.{address_in}
-use Rattle.home_directory.specs.dsm_messages.declared.messages.Need.{Need}
-use Rattle.home_directory.specs.dsm_messages.declared.messages.Need.TheVariants.{Read, Write}
-use Rattle.dsm_protocol.specs.node_model.Node.{ProcessorState, NodeMemory, Want, Resume, PastWord, SameWord, ByLines, Move, Next, Again, To, Enters, Waits, Leaves, WordOutcome, local_stored, both_meet, execute}
-use Rattle.rewriting_law.specs.CoreRun.{commits_by}
-use Rattle.rewriting_law.specs.Licence.{Licensed}
+use Rattle.rewriting_law.proofs.Names.{Instr, Ecall, ByteU, Word, amo, Shape, holds, Shared, Program, class_at, line_of, Live, reg, load_value, byte_by, is_in_block, stands_at_store, RunsToStore, Processor, Access, Nothing, Reads, Writes, WritesIf, Exchanges, Request, Becomes, Prints, LoadsFrom, StoresTo, ReservesAt, StoresWhere, UpdatesAt, request, with_exit, after_print, after_store, after_exchange, after_conditional, set_register, next_pc, MissR, MissW, Poll, Call, Batch, Prepare, CommitKind, Never, Head, Fast, PlanEntry, IsPlace, closes_loop, SequenceItem, ItemWord, Runs, GoesTo, items_in, address_in, Need, Read, Write, ProcessorState, NodeMemory, Want, Resume, PastWord, SameWord, ByLines, Move, Next, Again, To, Enters, Waits, Leaves, WordOutcome, local_stored, both_meet, execute, commits_by, Licensed}
+use Rattle.rv32_decode.specs.declared.LoadKind.TheVariants.{Word as WordLoad}
 use Rattle.rewriting_law.proofs.templates.States.{Suits, Later, later_still, grants}
 
 -- the node stands at the head of a place, where its registers agree wherever they are live. This is
@@ -43,8 +17,7 @@ pub record AtHead (program : Program) (a : ℕ) (q : Processor) (l : ProcessorSt
 
 -- the byte of an address, as the processor would see it in the node's copy
 abbrev pub byte_seen : Program → Processor → NodeMemory → ℕ → ℕ
-byte_seen program q n a =
-    byte_by (class_at program a) (n.copy a) (program.first a) (q.private a) 0
+byte_seen program q n a = byte_by (class_at program a) (n.copy a) (program.first a) (q.private a) 0
 
 -- the lane at another word
 abbrev pub lane_at : ℕ → ℕ → ProcessorState → ProcessorState
@@ -178,8 +151,7 @@ place_in_batch program e k = address_in e Fast (k - length (items_in program.cod
 -- what holds behind the last word of a sequence of a place: that of a place with a code word falls
 -- through to the next place, and a batch to the place's own sequence
 abbrev pub Falls : Program → SequenceKind → ℕ → Processor → ProcessorState → Type 0
-Falls program OfPlace a q l =
-    ((i : Instr) × (program.code a ≡ Some i)) × AtHead program (a + 4) q l
+Falls program OfPlace a q l = ((i : Instr) × (program.code a ≡ Some i)) × AtHead program (a + 4) q l
 Falls program (OfRun place) a q l = AtHead program a q l
 
 -- the word is the first of a place's own sequence, where the node stands at the head
@@ -193,8 +165,7 @@ AreWanted program q n (w ∷ ws) = IsWanted program q n w × AreWanted program q
 
 abbrev pub SomeGranted : NodeMemory → List Want → Type 0
 SomeGranted n [] = ⊥
-SomeGranted n (w ∷ ws) =
-    (grants w.need (n.state (line_of w.at)) ≡ true) ⊎ SomeGranted n ws
+SomeGranted n (w ∷ ws) = (grants w.need (n.state (line_of w.at)) ≡ true) ⊎ SomeGranted n ws
 
 -- what holds of the words behind one, once so many more are skipped
 abbrev pub Rest : Type 1
@@ -234,8 +205,7 @@ Leads program kind a k at K q n r m (Waits resume want more) =
     (commits_by m r ≡ false) × (r.printed ≡ None) × (r.local ≡ n) × (length more ≤ 1)
     × AreWanted program q n (want ∷ more)
     × ((n' : NodeMemory) → Suits program n' → SomeGranted n' (want ∷ more)
-    → Resumes program kind a k K q r.lane resume n')
-    × (is_store r.access ≡ false)
+    → Resumes program kind a k K q r.lane resume n') × (is_store r.access ≡ false)
 
 -- a word before which messages are taken is the first of its place's own sequence, where the node
 -- stands at the head whatever the messages bring. The check of a run goes by its own address
@@ -252,8 +222,7 @@ ItemLeads program kind a k at K m q l n (Runs Call) =
     × Leads program kind a k at K q n (execute program (place_of kind a k) at Call l n) m
     (execute program (place_of kind a k) at Call l n).move
 ItemLeads program kind a k at K m q l n (Runs (Batch stores low high)) =
-    l.at ≡ at
-    → Leads program kind a k at K q n
+    l.at ≡ at → Leads program kind a k at K q n
     (execute program (place_of kind a k) at (Batch stores low high) l n) m
     (execute program (place_of kind a k) at (Batch stores low high) l n).move
 ItemLeads program kind a k at K m q l n (Runs w) =

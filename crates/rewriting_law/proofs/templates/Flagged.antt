@@ -2,39 +2,13 @@
 use Rattle.std.proofs.Common.{◌≡◌, ◌≢◌, ℕ, zero, suc, ◌+◌, ◌%◌, ◌^◌, ◌<◌, cond, eqb, ltb, get_or, Bool, true, false, List, [], ◌∷◌, Some, refl, sym, ap, ◌∙◌, subst, inl, inr, arith, lit<}
 use Rattle.std.specs.Prelude.{ℤ, pos, not}
 use Rattle.std.proofs.lemmas.Bool.Decides.{eqb_tells, leb_tells, nat_tests}
-use Rattle.rv32_decode.specs.Fields.{unsigned}
-use Rattle.rv32_decode.specs.Registers.{destination}
-use Rattle.rv32_decode.specs.declared.Instr.{Instr}
-use Rattle.rv32_decode.specs.declared.Instr.TheVariants.{Load, OpImm, Branch}
-use Rattle.rv32_decode.specs.declared.Cond.TheVariants.{Ne, Lt}
+use Rattle.rewriting_law.proofs.Names.{unsigned, destination, Instr, Load, OpImm, Branch, Ne, Lt, Word, is_aligned, taken, extend, raw, Class, Shared, ReadOnly, Private, Unmapped, offset_address, Program, IsAccepted, class_at, is_mapped, line_of, Uses, Live, uses, passes, Sets, reg, branch_demand, load_value, byte_by, Processor, set_register, next_pc, Native, MissR, Always, IfNotFlag, Scratches, is_flag_checked, HasOneScratch, SequenceItem, with_word, committing, checking, own, reload, lower_part, flag_word, flag_load_sequence, flag_byte, ProcessorState, NodeMemory, WordOutcome, byte_at, is_readable_state, native, execute, commits_by}
 use Rattle.rv32_decode.specs.declared.ImmOp.TheVariants as imm_op
 use Rattle.rv32_decode.specs.declared.LoadKind.TheVariants as load_kind
-use Rattle.rv32_decode.specs.declared.Width.TheVariants.{Word}
-use Rattle.rv32_decode.specs.Widths.{is_aligned}
-use Rattle.rv32_ops.specs.Operations.{taken, extend}
-use Rattle.byte_range.specs.Memory.{raw}
-use Rattle.rv32_program.specs.declared.Class.{Class}
-use Rattle.rv32_program.specs.declared.Class.TheVariants.{Shared, ReadOnly, Private, Unmapped}
-use Rattle.rv32_program.specs.Targets.{offset_address}
-use Rattle.rv32_program.specs.Program.{Program, IsAccepted, class_at, is_mapped, line_of}
-use Rattle.rv32_program.specs.Liveness.{Uses, Live, uses, passes}
-use Rattle.rv32_step.specs.declared.Demand.TheVariants.{Sets}
-use Rattle.rv32_step.specs.Registers.{reg}
-use Rattle.rv32_step.specs.Demands.{branch_demand}
-use Rattle.rv32_step.specs.Memory.{load_value, byte_by}
-use Rattle.rv32_step.specs.OneMemory.{Processor, set_register, next_pc}
-use Rattle.runtime_words.specs.declared.RtWord.TheVariants.{Native, MissR}
-use Rattle.templates.specs.declared.commits.CommitKind.TheVariants.{Always, IfNotFlag}
-use Rattle.templates.specs.declared.plans.Scratches.{Scratches}
-use Rattle.templates.specs.Plans.{is_flag_checked, HasOneScratch}
-use Rattle.templates.specs.Sequences.{SequenceItem, with_word, committing, checking, own, reload, lower_part, flag_word, flag_load_sequence}
-use Rattle.home_directory.specs.flag_memory.Flag.{flag_byte}
-use Rattle.dsm_protocol.specs.node_model.Node.{ProcessorState, NodeMemory, WordOutcome, byte_at, is_readable_state, native, execute}
-use Rattle.rewriting_law.specs.CoreRun.{commits_by}
 use Rattle.rewriting_law.proofs.templates.RegisterLemmas.{apart, equal, reg_zero, put_here, put_other}
 use Rattle.rewriting_law.proofs.templates.States.{Suits, ReadLook, Gone, Readable, Unreadable, read_look}
 use Rattle.rewriting_law.proofs.templates.Does.{OfPlace, AtHead, Rest, byte_seen, lane_at, IsWhere, Continues, Leads, FirstLeads, Does}
-use Rattle.rewriting_law.proofs.templates.Mids.{Hide, Shown, IsHidden, hiding, shown, Mid, with_reg, hide_hidden, alu_add, spill_0, next_aligned, mid_at, own_set, own_set_unused, own_next, own_sets, own_jumps, spill_does, reload_does}
+use Rattle.rewriting_law.proofs.templates.Mids.{Hide, Shown, IsHidden, hiding, shown, Mid, with_reg, hide_hidden, alu_add, spill_0, next_aligned, mid_at, own_set, own_set_unused, own_next, own_sets, own_jumps, spill_does, reload_does, shown_mid, shown_head}
 use Rattle.rewriting_law.proofs.templates.Checked.{value_same, not_live, load_outcome, seen_value, same_base, load_misaligned, load_misaligned_now, load_gives, load_sees, load_commits, load_commits_now, refused, read_missed}
 
 taken_unequal : (a b : ℕ) → taken Ne a b ≡ not (eqb a b)
@@ -64,8 +38,7 @@ flag_bytes a m =
     rw (e0, e1, e2, e3) refl
 
 -- such a load's register is neither x0 nor its base
-own_register : (rd rs1 : ℕ) → is_flag_checked load_kind.Word rd rs1 ≡ true
-    → (rd ≢ 0) × (rd ≢ rs1)
+own_register : (rd rs1 : ℕ) → is_flag_checked load_kind.Word rd rs1 ≡ true → (rd ≢ 0) × (rd ≢ rs1)
 own_register rd rs1 h = elim (eqb_tells rd 0) [
   | inl e ↦ (let bad : false ≡ true = (rw e.0 at h) in cc)
   | inr e ↦ (elim (eqb_tells rd rs1) [
@@ -149,16 +122,9 @@ module _ (program : Program) (accepted : IsAccepted program) where
         → Does program OfPlace a j at last 0 p l n'
     ends n' j at p l m =
         reload_does program OfPlace a x.s.spilled 0 s j at (a + 4) shown p l n' [] spill_0
-        one.s.nonzero
-        refl m (λ j1 to1 l1 e1 m1. (
+        one.s.nonzero refl m (λ j1 to1 l1 e1 m1. (
           (word, c),
-          record {
-            place = m1.place;
-            running = m1.running;
-            agree = m1.agree;
-            private = m1.private;
-            written = m1.written;
-          },
+          shown_head program (a + 4) p l1 m1,
         ))
 
     -- the second load, where the line is readable
@@ -194,9 +160,7 @@ module _ (program : Program) (accepted : IsAccepted program) where
         → Does program OfPlace a j at flag 0 p l n
     compares n j at b p l v al is m t tells next =
         own_sets program OfPlace a j at (OpImm imm_op.Add s 0 (lower_part flag_word)) compare p l n
-        s
-        flag_word
-        (ap (Sets s) (alu_add (reg l.registers 0) (unsigned 32 (lower_part flag_word))
+        s flag_word (ap (Sets s) (alu_add (reg l.registers 0) (unsigned 32 (lower_part flag_word))
         ∙ ap (λ z. (z + unsigned 32 (lower_part flag_word)) % 2 ^ 32) (reg_zero l.registers)))
         (λ x1 y1.
         let l1 = lane_at x1 y1 (with_reg l s flag_word) in
@@ -226,8 +190,7 @@ module _ (program : Program) (accepted : IsAccepted program) where
             (next (k + 1) (next_pc to) (lane_at x y l1) (mid_at program b hides p l1 x y m1)))
         go k to l1 al1 m1 false e takes =
             own_jumps program OfPlace a 2 k to (offset_address to (pos 12))
-            (Branch Ne rd s (pos 12)) look p
-            l1 n (omega arith) (omega arith)
+            (Branch Ne rd s (pos 12)) look p l1 n (omega arith) (omega arith)
             (ap (λ z. branch_demand z (offset_address to (pos 12))) (takes false e))
             (λ x y. subst (λ z. Does program OfPlace a (k + 1) (next_pc to) look (cond z 0 2) p
             (lane_at x y l1) n) e
@@ -242,8 +205,7 @@ module _ (program : Program) (accepted : IsAccepted program) where
     -- the first load gives the flag word, and doesn't commit
     gives_flag : (n : NodeMemory) (j at : ℕ) (l : ProcessorState) (v : ℕ) → at % 4 ≡ 0 → Mid program hides a q l
         → execute program a at (Native word) l n ≡ load_outcome l n load_kind.Word rd address v
-        → eqb v flag_word ≡ true
-        → FirstLoads j at l n
+        → eqb v flag_word ≡ true → FirstLoads j at l n
     gives_flag n j at l v al m is tells =
         let K : Rest = λ z. Does program OfPlace a (j + 1) (next_pc at) flag z in
         let done = load_outcome l n load_kind.Word rd address v in
@@ -264,8 +226,7 @@ module _ (program : Program) (accepted : IsAccepted program) where
 
     -- the first load, by the node as it is then
     loads_now : (n : NodeMemory) → Suits program n → (j at : ℕ) (l : ProcessorState) → at % 4 ≡ 0
-        → address < 2 ^ 31 → Mid program hides a q l
-        → FirstLoads j at l n
+        → address < 2 ^ 31 → Mid program hides a q l → FirstLoads j at l n
     loads_now n suits j at l al low m = go (is_aligned Word address) refl
       where
         v : ℕ
@@ -366,12 +327,10 @@ module _ (program : Program) (accepted : IsAccepted program) where
                 (λ (n' : NodeMemory). ap (λ z. native program a to l1 n'
                 (branch_demand z (offset_address to (pos 16)))) (takes true e))
                 (λ x y. loads_first n (k + 1) (next_pc to) (lane_at x y l1) (next_aligned to al1)
-                low
-                (mid_at program a hides q l1 x y m1))
+                low (mid_at program a hides q l1 x y m1))
             go false e =
                 own_jumps program OfPlace a 3 k to (offset_address to (pos 16))
-                (Branch Lt s 0 (pos 16))
-                first q l1 n (omega arith) (omega arith)
+                (Branch Lt s 0 (pos 16)) first q l1 n (omega arith) (omega arith)
                 (ap (λ z. branch_demand z (offset_address to (pos 16))) (takes false e))
                 (λ x y. looks n (k + 1 + 1 + 1 + 1) (next_pc (next_pc (next_pc (next_pc to))))
                 (lane_at x y l1) (mid_at program a hides q l1 x y m1))
@@ -382,10 +341,4 @@ module _ (program : Program) (accepted : IsAccepted program) where
     flag_load_does n at l head al =
         spill_does program OfPlace a x.s.spilled 0 s 0 at shown q l n
         (own (OpImm imm_op.Add s rs1 imm) test) spill_0 refl (λ r. tt)
-        (not_live program a word x.s c one.s) (record {
-          place = head.place;
-          running = head.running;
-          agree = head.agree;
-          private = head.private;
-          written = head.written;
-        }) al (λ j to l1 e1 al1 m1. begins n j to l1 al1 m1)
+        (not_live program a word x.s c one.s) (shown_mid program a q l head) al (λ j to l1 e1 al1 m1. begins n j to l1 al1 m1)

@@ -3,32 +3,15 @@ use Rattle.std.proofs.Common.{◌≡◌, ◌≢◌, ℕ, ◌+◌, ◌-◌, ◌/�
 use Rattle.std.proofs.Math.Dec.{ltb}
 use Rattle.std.specs.Prelude.{ℤ, pos, bit_and, bit_or}
 use Rattle.std.proofs.lemmas.Bool.Decides.{eqb_tells, nat_tests}
-use Rattle.rv32_decode.specs.Fields.{unsigned}
-use Rattle.rv32_decode.specs.declared.Instr.{Instr}
-use Rattle.rv32_decode.specs.declared.Instr.TheVariants.{Lui, Load, Store, OpImm, ShiftImm, Op}
-use Rattle.rv32_decode.specs.declared.Cond.TheVariants.{Eq}
+use Rattle.rewriting_law.proofs.Names.{unsigned, Instr, Lui, Load, Store, OpImm, ShiftImm, Op, Eq, Byte, Word, alu, taken, Sets, Branches, Loads, Stores, reg, put, demand_of, offset_address, is_aligned, Program, Live, Processor, next_pc, Native, Never, Scratches, SequenceItem, own, spill_offset, spill_by, reload_by, state_look, ProcessorState, NodeMemory, WordOutcome, Next, To, only_moves, native, load, StateOf, Spill, region_of, execute}
 use Rattle.rv32_decode.specs.declared.LoadKind.TheVariants as load_kind
-use Rattle.rv32_decode.specs.declared.Width.TheVariants.{Byte, Word}
 use Rattle.rv32_decode.specs.declared.Op.TheVariants as op
 use Rattle.rv32_decode.specs.declared.ImmOp.TheVariants as imm_op
 use Rattle.rv32_decode.specs.declared.ShiftOp.TheVariants as shift_op
-use Rattle.rv32_ops.specs.Operations.{alu, taken}
-use Rattle.rv32_step.specs.declared.Demand.TheVariants.{Sets, Branches, Loads, Stores}
-use Rattle.rv32_step.specs.Registers.{reg, put}
-use Rattle.rv32_step.specs.Demands.{demand_of}
-use Rattle.rv32_program.specs.Targets.{offset_address}
-use Rattle.rv32_decode.specs.Widths.{is_aligned}
-use Rattle.rv32_program.specs.Program.{Program}
-use Rattle.rv32_program.specs.Liveness.{Live}
-use Rattle.rv32_step.specs.OneMemory.{Processor, next_pc}
-use Rattle.runtime_words.specs.declared.RtWord.TheVariants.{Native}
-use Rattle.templates.specs.declared.commits.CommitKind.TheVariants.{Never}
-use Rattle.templates.specs.declared.plans.Scratches.{Scratches}
-use Rattle.templates.specs.Sequences.{SequenceItem, own, spill_offset, spill_by, reload_by, state_look}
-use Rattle.dsm_protocol.specs.node_model.Node.{ProcessorState, NodeMemory, WordOutcome, Next, To, only_moves, set_register, native, load, StateOf, Spill, region_of, execute}
+use Rattle.dsm_protocol.specs.node_model.Node.{set_register}
 use Rattle.rewriting_law.proofs.templates.RegisterLemmas.{apart, equal, reg_zero, put_here, put_other}
 use Rattle.rewriting_law.proofs.templates.States.{Suits, Later}
-use Rattle.rewriting_law.proofs.templates.Does.{SequenceKind, place_of, lane_at, skip_to, Leads, Does, does_later}
+use Rattle.rewriting_law.proofs.templates.Does.{AtHead, SequenceKind, place_of, lane_at, skip_to, Leads, Does, does_later}
 
 pub data Hide : Type 0 where
   Shown : Hide
@@ -66,6 +49,38 @@ pub record Mid (program : Program) (h : ℕ → Hide) (a : ℕ) (q : Processor) 
   pub private : l.private ≡ q.private
   pub written : l.written ≡ q.written
 
+-- at a head nothing is hidden
+pub shown_mid : (program : Program) (a : ℕ) (q : Processor) (l : ProcessorState) → AtHead program a q l
+    → Mid program shown a q l
+shown_mid program a q l head = record {
+  place = head.place;
+  running = head.running;
+  agree = head.agree;
+  private = head.private;
+  written = head.written;
+}
+
+pub shown_head : (program : Program) (a : ℕ) (q : Processor) (l : ProcessorState)
+    → Mid program shown a q l → AtHead program a q l
+shown_head program a q l m = record {
+  place = m.place;
+  running = m.running;
+  agree = m.agree;
+  private = m.private;
+  written = m.written;
+}
+
+-- the head of a place, with the lane at another word
+pub head_at : (program : Program) (a : ℕ) (q : Processor) (l : ProcessorState) (x y : ℕ)
+    → AtHead program a q l → AtHead program a q (lane_at x y l)
+head_at program a q l x y head = record {
+  place = head.place;
+  running = head.running;
+  agree = head.agree;
+  private = head.private;
+  written = head.written;
+}
+
 abbrev pub with_reg : ProcessorState → ℕ → ℕ → ProcessorState
 with_reg l r v = set_register l r v
 
@@ -75,14 +90,12 @@ with_spill l k v = record l { spills = λ i. cond (eqb i k) v (l.spills i) }
 holds_put : (x : Hide) (r s v : ℕ) (q : Processor) (l : ProcessorState) → r ≢ s → Holds x r q l
     → Holds x r q (with_reg l s v)
 holds_put Shown r s v q l e h = put_other l.registers s r v e ∙ h
-holds_put Dead r s v q l e h = h
-holds_put (In k) r s v q l e h = h
+holds_put other r s v q l e h = h
 
 holds_hidden : (x : Hide) (r s v : ℕ) (q : Processor) (l : ProcessorState) → IsHidden x → Holds x r q l
     → Holds x r q (with_reg l s v)
 holds_hidden Shown r s v q l e h = absurd e
-holds_hidden Dead r s v q l e h = h
-holds_hidden (In k) r s v q l e h = h
+holds_hidden other r s v q l e h = h
 
 holds_spill : (x : Hide) (r k v : ℕ) (q : Processor) (l : ProcessorState) → Free k x → Holds x r q l
     → Holds x r q (with_spill l k v)
@@ -93,8 +106,7 @@ holds_spill (In j) r k v q l e h = rw (apart j k e) h
 holds_at : (x : Hide) (r i j : ℕ) (q : Processor) (l : ProcessorState) → Holds x r q l
     → Holds x r q (lane_at i j l)
 holds_at Shown r i j q l h = h
-holds_at Dead r i j q l h = h
-holds_at (In k) r i j q l h = h
+holds_at other r i j q l h = h
 
 pub hide_hidden : (spilled : Bool) (k : ℕ) → IsHidden (hide spilled k)
 hide_hidden true k = tt
@@ -176,11 +188,9 @@ module _ (program : Program) (a : ℕ) where
   mid_at h q l x y m = record {
     place = m.place;
     running = m.running;
-    agree =
-        λ r live. holds_at (h r) r x y q l (m.agree r live);
+    agree = λ r live. holds_at (h r) r x y q l (m.agree r live);
     private = m.private;
-    written =
-        m.written;
+    written = m.written;
   }
 
   -- a register that isn't live, or is hidden, may be set
@@ -302,8 +312,7 @@ module _ (program : Program) (kind : SequenceKind) (a : ℕ) where
   pub own_sets : (k at : ℕ) (i : Instr) (rest : List SequenceItem) (q : Processor) (l : ProcessorState)
       (n : NodeMemory) (r v : ℕ) → demand_of i l.registers at ≡ Sets r v
       → ((x y : ℕ) → Does program kind a (k + 1) (next_pc at) rest 0 q
-      (lane_at x y (with_reg l r v)) n)
-      → Does program kind a k at (own i rest) 0 q l n
+      (lane_at x y (with_reg l r v)) n) → Does program kind a k at (own i rest) 0 q l n
   own_sets k at i rest q l n r v e go = own_next k at i rest q l (with_reg l r v) n
       (λ m. ap (native program (place_of kind a k) at l m) e) go
 
@@ -317,8 +326,7 @@ module _ (program : Program) (kind : SequenceKind) (a : ℕ) where
       let acts : execute program (place_of kind a k) at (Native i) l m ≡ only_moves l m (To to) =
       ap (native program (place_of kind a k) at l m) e ∙ rw (equal (to % 4) 0 four) refl in
       subst (λ (r : WordOutcome). Leads program kind a k at (λ s. Does program kind a (k + 1)
-      (next_pc at) rest s)
-      q m r Never r.move) (sym acts) (
+      (next_pc at) rest s) q m r Never r.move) (sym acts) (
         s,
         there,
         (
@@ -353,11 +361,9 @@ module _ (program : Program) (kind : SequenceKind) (a : ℕ) where
       (Native (Store Word 0 s (spill_offset j))) l m
       ≡ only_moves (with_spill l j (reg l.registers s)) m Next =
       λ m. ap (λ z. native program (place_of kind a k) at l m (Stores Word z (reg l.registers s)))
-      where_is
-      ∙ rw (i.aligns, i.is) refl in
+      where_is ∙ rw (i.aligns, i.is) refl in
       own_next k at (Store Word 0 s (spill_offset j)) rest q l (with_spill l j (reg l.registers s))
-      n acts
-      (λ x y. go (k + 1) (next_pc at) _ refl (next_aligned at al)
+      n acts (λ x y. go (k + 1) (next_pc at) _ refl (next_aligned at al)
       (mid_at program a (hiding true j s h) q _ x y (hide_in program a h j s q l sh free m)))
   spill_does false j s k at h q l n rest i sh free dead m al go =
       go k at l (omega arith) al (hide_dead program a h j s q l (dead refl) m)
@@ -378,8 +384,7 @@ module _ (program : Program) (kind : SequenceKind) (a : ℕ) where
       λ m. ap (λ z. native program (place_of kind a k) at l m (Loads load_kind.Word s z)) where_is
       ∙ rw (i.aligns, i.is) refl in
       own_next k at (Load load_kind.Word s 0 (spill_offset j)) rest q l (with_reg l s (l.spills j))
-      n acts
-      (λ x y. go (k + 1) (next_pc at) _ refl (mid_at program b h q _ x y
+      n acts (λ x y. go (k + 1) (next_pc at) _ refl (mid_at program b h q _ x y
       (show_again program b h j s q l s0 sh m)))
   reload_does false j s k at b h q l n rest i s0 sh m go =
       go k at l (omega arith) (show_dead program b h j s q l m)
@@ -405,8 +410,7 @@ module _ (program : Program) (kind : SequenceKind) (a : ℕ) where
       → ((m : NodeMemory) → Suits program m → (i to : ℕ) (l' : ProcessorState) → i ≡ k + 5 → to % 4 ≡ 0
       → Mid program h a q l'
       → reg l'.registers regs.s.register ≡ m.state (offset_address (reg q.registers rs1) imm / 64)
-      → reg l'.registers regs.t.register ≡ 0x80000000
-      → Does program kind a i to rest 0 q l' m)
+      → reg l'.registers regs.t.register ≡ 0x80000000 → Does program kind a i to rest 0 q l' m)
       → Does program kind a k at (state_look regs rs1 imm rest) 0 q l n
   look_does regs rs1 imm k at h q l n rest s0 t0 st hs ht sh live m al go =
       let s = regs.s.register in
@@ -433,8 +437,7 @@ module _ (program : Program) (kind : SequenceKind) (a : ℕ) where
       let m3 = own_set program a h q l2 s (target / 64) hs
       (mid_at program a h q (with_reg l1 t 0x80000000) x2 y2 m2) in
       own_sets (k + 1 + 1) (next_pc (next_pc at)) (ShiftImm shift_op.Srl s s 6) rest3 q l2 n s
-      (target / 64) (ap (Sets s) (alu_line (reg l2.registers s) ∙ ap (λ z. z / 64) s2))
-      (λ x3 y3.
+      (target / 64) (ap (Sets s) (alu_line (reg l2.registers s) ∙ ap (λ z. z / 64) s2)) (λ x3 y3.
       let l3 = lane_at x3 y3 (with_reg l2 s (target / 64)) in
       let s3 : reg l3.registers s ≡ target / 64 = put_here l2.registers s (target / 64) s0 in
       let t3 : reg l3.registers t ≡ 0x80000000 = put_other l2.registers s t (target / 64) ts ∙ t2 in

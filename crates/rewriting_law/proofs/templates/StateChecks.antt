@@ -1,30 +1,9 @@
 -- Loads and stores whose line's state is tested.
 use Rattle.std.proofs.Common.{◌≡◌, ℕ, ◌+◌, ◌%◌, eqb, Bool, true, false, List, Some, refl, ap, ◌∙◌, inr, lit<}
 use Rattle.std.specs.Prelude.{ℤ, pos, bit_and}
-use Rattle.rv32_decode.specs.declared.Instr.{Instr}
-use Rattle.rv32_decode.specs.declared.Instr.TheVariants.{Load, Store, OpImm, Branch}
-use Rattle.rv32_decode.specs.declared.Cond.TheVariants.{Eq}
+use Rattle.rewriting_law.proofs.Names.{Instr, Load, Store, OpImm, Branch, Eq, LoadKind, Width, alu, taken, Shape, Sets, reg, demand_of, branch_demand, offset_address, width_of, is_aligned, Program, IsAccepted, class_at, is_mapped, is_writable, line_of, Uses, uses, stores_in, is_in_block, Processor, set_register, after_store, next_pc, Native, MissR, MissW, Always, Scratches, HasTwoScratches, SequenceItem, committing, own, checking, state_look, reloads, read_sequence, state_load_sequence, write_sequence, store_sequence, ProcessorState, NodeMemory, is_readable_state, is_writable_state, local_stored, lane_stored, native}
 use Rattle.rv32_decode.specs.declared.ImmOp.TheVariants as imm_op
 use Rattle.rv32_decode.specs.declared.Op.TheVariants as op
-use Rattle.rv32_decode.specs.declared.LoadKind.{LoadKind}
-use Rattle.rv32_decode.specs.declared.Width.{Width}
-use Rattle.rv32_ops.specs.Operations.{alu, taken}
-use Rattle.block_layout.specs.Layout.{Shape}
-use Rattle.rv32_step.specs.declared.Demand.TheVariants.{Sets}
-use Rattle.rv32_step.specs.Registers.{reg}
-use Rattle.rv32_step.specs.Demands.{demand_of, branch_demand}
-use Rattle.rv32_program.specs.Targets.{offset_address}
-use Rattle.rv32_decode.specs.Widths.{width_of, is_aligned}
-use Rattle.rv32_program.specs.Program.{Program, IsAccepted, class_at, is_mapped, is_writable, line_of}
-use Rattle.rv32_program.specs.Liveness.{Uses, uses}
-use Rattle.rv32_step.specs.Breaks.{stores_in, is_in_block}
-use Rattle.rv32_step.specs.OneMemory.{Processor, set_register, after_store, next_pc}
-use Rattle.runtime_words.specs.declared.RtWord.TheVariants.{Native, MissR, MissW}
-use Rattle.templates.specs.declared.commits.CommitKind.TheVariants.{Always}
-use Rattle.templates.specs.declared.plans.Scratches.{Scratches}
-use Rattle.templates.specs.Plans.{HasTwoScratches}
-use Rattle.templates.specs.Sequences.{SequenceItem, committing, own, checking, state_look, reloads, read_sequence, state_load_sequence, write_sequence, store_sequence}
-use Rattle.dsm_protocol.specs.node_model.Node.{ProcessorState, NodeMemory, is_readable_state, is_writable_state, local_stored, lane_stored, native}
 use Rattle.rewriting_law.proofs.templates.RegisterLemmas.{reg_zero, put_here}
 use Rattle.rewriting_law.proofs.templates.States.{Suits, ReadLook, Gone, Readable, Unreadable, read_look, WriteLook, Fixed, Writable, Unwritable, write_look}
 use Rattle.rewriting_law.proofs.templates.Does.{OfPlace, AtHead, lane_at, StandsToStore, Does}
@@ -97,8 +76,7 @@ module _ (program : Program) (accepted : IsAccepted program) where
               (λ (n' : NodeMemory). ap (λ b. native program a at l n'
               (branch_demand b (offset_address at (pos 8)))) (tests false z))
               (λ x y. read_missed program accepted a q m.place w rs1 imm tested word_behind (j + 1)
-              (next_pc at)
-              (lane_at x y l) n (same_tested l m) ends (λ n' readable mapped x2 y2.
+              (next_pc at) (lane_at x y l) n (same_tested l m) ends (λ n' readable mapped x2 y2.
               word n' readable mapped (j + 1 + 1) (next_pc (next_pc at))
               (lane_at x2 y2 (lane_at x y l)) (mid_at program a hides q (lane_at x y l) x2 y2
               (mid_at program a hides q l x y m))))
@@ -121,8 +99,7 @@ module _ (program : Program) (accepted : IsAccepted program) where
           (checking (MissR w rs1 imm) word_behind) in
           let rest1 = own (OpImm imm_op.And regs.s.register regs.s.register (pos 2)) rest2 in
           with_scratch program accepted a 0 at q l n i regs (state_look regs rs1 imm rest1) c two
-          head al
-          (λ j to l1 al1 m1.
+          head al (λ j to l1 al1 m1.
           look_does program OfPlace a regs rs1 imm j to hides q l1 n rest1 two.s.nonzero
           two.t.nonzero
           two.apart (hidden_s program accepted regs) (hidden_t program accepted regs two.apart)
@@ -132,8 +109,7 @@ module _ (program : Program) (accepted : IsAccepted program) where
           let now : alu op.And (reg l2.registers regs.s.register) 2 ≡ v =
           alu_and (reg l2.registers regs.s.register) 2 ∙ ap (λ z. bit_and z 2) state in
           own_sets program OfPlace a j2 to2 (OpImm imm_op.And regs.s.register regs.s.register
-          (pos 2)) rest2
-          q l2 n' regs.s.register v (ap (Sets regs.s.register) now) (λ x y.
+          (pos 2)) rest2 q l2 n' regs.s.register v (ap (Sets regs.s.register) now) (λ x y.
           read_branch word ends n' suits (j2 + 1) (next_pc to2)
           (lane_at x y (with_reg l2 regs.s.register v)) (next_aligned to2 al2)
           (put_here l2.registers regs.s.register v two.s.nonzero)
@@ -170,8 +146,7 @@ module _ (program : Program) (accepted : IsAccepted program) where
               (λ (n' : NodeMemory). ap (λ b. native program a at l n'
               (branch_demand b (offset_address at (pos 8)))) (tests false z))
               (λ x y. write_missed program accepted a q m.place w rs1 imm tested word_behind (j + 1)
-              (next_pc at)
-              (lane_at x y l) n (same_tested l m) stores ends
+              (next_pc at) (lane_at x y l) n (same_tested l m) stores ends
               (λ n' may writable mapped x2 y2.
               word n' may writable mapped (j + 1 + 1) (next_pc (next_pc at))
               (lane_at x2 y2 (lane_at x y l)) (mid_at program a hides q (lane_at x y l) x2 y2
@@ -187,8 +162,7 @@ module _ (program : Program) (accepted : IsAccepted program) where
               (λ x y. word n may writable mapped (j + 1 + 1) (next_pc (next_pc at)) (lane_at x y l)
               (mid_at program a hides q l x y m))
 
-      pub write_does : AfterWrite
-          → ((layout : Shape) (b : ℕ)
+      pub write_does : AfterWrite → ((layout : Shape) (b : ℕ)
           → stores_in layout b (demand_of i q.registers q.pc) ≡ is_in_block layout b tested)
           → Refuses program q w tested (is_writable (class_at program tested))
           → (n : NodeMemory) (at : ℕ) (l : ProcessorState) → AtHead program a q l → at % 4 ≡ 0
@@ -197,16 +171,14 @@ module _ (program : Program) (accepted : IsAccepted program) where
           let rest1 = own (Branch Eq regs.s.register 0 (pos 8))
           (checking (MissW w rs1 imm) word_behind) in
           with_scratch program accepted a 0 at q l n i regs (state_look regs rs1 imm rest1) c two
-          head al
-          (λ j to l1 al1 m1.
+          head al (λ j to l1 al1 m1.
           look_does program OfPlace a regs rs1 imm j to hides q l1 n rest1 two.s.nonzero
           two.t.nonzero
           two.apart (hidden_s program accepted regs) (hidden_t program accepted regs two.apart)
           tested_shown (uses i c base) m1 al1
           (λ (n' : NodeMemory) suits j2 to2 l2 e2 al2 m2 state table.
           write_branch word (stands_to_store program accepted a q i tested head.place c same) ends
-          n' suits j2 to2 l2 al2
-          state m2))
+          n' suits j2 to2 l2 al2 state m2))
 
     module _ (k : LoadKind) (rd rs1 : ℕ) (imm : ℤ) (c : program.code a ≡ Some (Load k rd rs1 imm))
         (two : HasTwoScratches program.code a (Load k rd rs1 imm) regs) where
@@ -226,21 +198,17 @@ module _ (program : Program) (accepted : IsAccepted program) where
         where
           go : (b : Bool) → is_aligned (width_of k) access ≡ b
               → Does program OfPlace a j at (committing (Native (Load k rd rs1 imm)) (reloads regs))
-              0 q l
-              n'
+              0 q l n'
           go false f = load_misaligned program accepted a q hides k rd rs1 imm c base_shown
-              n' OfPlace a j at l
-              Always (reloads regs) refl f m
+              n' OfPlace a j at l Always (reloads regs) refl f m
           go true f =
               load_commits program accepted a q hides k rd rs1 imm c base_shown n' OfPlace a j at l
               (reloads regs) refl
               (destination_shown program accepted a rd (Load k rd rs1 imm) regs two refl) f mapped
-              readable m
-              (λ n2 later x y mid.
+              readable m (λ n2 later x y mid.
               let v = seen_value program accepted a q hides k rd rs1 imm c base_shown n2 in
               scratch_back program accepted a (j + 1) (next_pc at) (Load k rd rs1 imm)
-              (set_register q rd v)
-              (lane_at x y (with_reg l rd v)) n2 regs c two mid)
+              (set_register q rd v) (lane_at x y (with_reg l rd v)) n2 regs c two mid)
 
       pub state_load_does : (n : NodeMemory) (at : ℕ) (l : ProcessorState) → AtHead program a q l → at % 4 ≡ 0
           → Does program OfPlace a 0 at (state_load_sequence regs k rd rs1 imm) 0 q l n
@@ -272,8 +240,7 @@ module _ (program : Program) (accepted : IsAccepted program) where
       store_word n' licence writable mapped j at l m =
           let v = reg q.registers rs2 in
           store_commits program accepted a q hides w rs1 rs2 imm c address_shown value_shown
-          n' OfPlace a j at l
-          (reloads regs) refl licence writable mapped m (λ n2 later x y mid.
+          n' OfPlace a j at l (reloads regs) refl licence writable mapped m (λ n2 later x y mid.
           scratch_back program accepted a (j + 1) (next_pc at) (Store w rs1 rs2 imm)
           (after_store program q w tested_address v)
           (lane_at x y (lane_stored program l w tested_address v))
@@ -284,5 +251,4 @@ module _ (program : Program) (accepted : IsAccepted program) where
       store_does n at l head al =
           write_does w rs1 imm (Store w rs1 rs2 imm) c (inr (0, lit< tt, refl)) two store_word
           (λ layout b. refl) (λ e h. refused program accepted a q (Store w rs1 rs2 imm) e head.place
-          c h) n at l head
-          al
+          c h) n at l head al

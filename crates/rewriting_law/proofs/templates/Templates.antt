@@ -2,48 +2,19 @@
 use Rattle.std.proofs.Common.{◌≡◌, ◌≢◌, ℕ, suc, ◌+◌, ◌*◌, ◌/◌, ◌%◌, ◌^◌, ◌<◌, Bool, true, false, cond, eqb, List, [], Option, Some, None, refl, sym, ap, ◌∙◌, subst, inl, inr, arith, lit<}
 use Rattle.std.specs.Prelude.{ℤ, pos, not, nat_lt, IsTrue}
 use Rattle.std.proofs.lemmas.Bool.Decides.{eqb_tells, leb_tells, nat_tests}
-use Rattle.rv32_decode.specs.Fields.{unsigned}
-use Rattle.rv32_decode.specs.Registers.{destination}
-use Rattle.rv32_decode.specs.declared.Instr.{Instr}
-use Rattle.rv32_decode.specs.declared.Instr.TheVariants.{Lui, Auipc, Jal, Jalr, Branch, Load, Store, OpImm, ShiftImm, Op, Fence, Ecall, Ebreak, Lr, Sc, Amo, Illegal}
-use Rattle.rv32_decode.specs.declared.Cond.{Cond}
-use Rattle.rv32_decode.specs.declared.Cond.TheVariants.{Eq, Ne, Lt, Ge, Ltu, Geu}
+use Rattle.rewriting_law.proofs.Names.{unsigned, destination, Instr, Lui, Auipc, Jal, Jalr, Branch, Load, Store, OpImm, ShiftImm, Op, Fence, Ecall, Ebreak, Lr, Sc, Amo, Illegal, Cond, Eq, Ne, Lt, Ge, Ltu, Geu, LoadKind, ByteU, alu, taken, is_signed_below, Misaligned, Fetch, Sets, Jumps, Branches, CallStep, Ends, Returns, Puts, reg, put, demand_of, operation_of, shift_of, branch_demand, call_step, step_of, cut_short, offset_address, target_of, byte_by, CallKind, Unknown, Program, IsAccepted, call_of, class_at, is_mapped, line_of, uses, passes, Processor, Reads, Request, Becomes, Prints, request, request_at, request_for, request_unless, request_of_call, with_exit, set_register, after_call, next_pc, RtWord, Native, Call, Xjalr, TrapFetch, TrapIllegal, TrapEbreak, CommitKind, Always, IfNoWait, PlanEntry, Scratches, IsPlace, is_flag_checked, may_poll, HasScratches, HasScratchesAt, template_at, SequenceItem, committing, with_word, to_head, constant, upper_part, lower_part, inverse, load_sequence, branch_sequence, jump_sequence, is_multiple_of_four, instruction_items, place_items, poll_first, items_of, Read, flag_byte, ProcessorState, NodeMemory, WordOutcome, Next, To, Enters, Waits, SameWord, only_moves, exit_by, is_readable_state, byte_at, native, make_call, print_byte, lane_after_call, indirect, execute}
 use Rattle.rv32_decode.specs.declared.ImmOp.TheVariants as imm_op
-use Rattle.rv32_decode.specs.declared.LoadKind.{LoadKind}
-use Rattle.rv32_decode.specs.declared.LoadKind.TheVariants.{Byte, Half, Word, ByteU, HalfU}
-use Rattle.rv32_ops.specs.Operations.{alu, taken, is_signed_below}
+use Rattle.rv32_decode.specs.declared.LoadKind.TheVariants.{Word}
 use Rattle.rv32_program.specs.declared.Exit.{Exit as Ending}
-use Rattle.rv32_program.specs.declared.Exit.TheVariants.{Ebreak as EbreakExit, Illegal as IllegalExit, Misaligned, Fetch}
-use Rattle.rv32_step.specs.declared.Demand.TheVariants.{Sets, Jumps, Branches}
-use Rattle.rv32_step.specs.declared.CallStep.{CallStep}
-use Rattle.rv32_step.specs.declared.CallStep.TheVariants.{Ends, Returns, Puts}
-use Rattle.rv32_step.specs.Registers.{reg, put}
-use Rattle.rv32_step.specs.Demands.{demand_of, operation_of, shift_of, branch_demand, call_step, step_of, cut_short}
-use Rattle.rv32_program.specs.Targets.{offset_address, target_of}
-use Rattle.rv32_step.specs.Memory.{byte_by}
-use Rattle.rv32_program.specs.declared.CallKind.{CallKind}
-use Rattle.rv32_program.specs.declared.CallKind.TheVariants.{Exit, Write, Unknown}
-use Rattle.rv32_program.specs.Program.{Program, IsAccepted, call_of, class_at, is_mapped, line_of}
-use Rattle.rv32_program.specs.Liveness.{uses, passes, Next as Follows}
-use Rattle.rv32_step.specs.OneMemory.{Processor, Reads, Request, Becomes, Prints, request, request_at, request_for, request_unless, request_of_call, with_exit, set_register, after_call, next_pc}
-use Rattle.runtime_words.specs.declared.RtWord.{RtWord}
-use Rattle.runtime_words.specs.declared.RtWord.TheVariants.{Native, Call, Xjalr, TrapFetch, TrapIllegal, TrapEbreak}
-use Rattle.templates.specs.declared.commits.CommitKind.{CommitKind}
-use Rattle.templates.specs.declared.commits.CommitKind.TheVariants.{Always, IfNoWait}
-use Rattle.templates.specs.declared.plans.PlanEntry.{PlanEntry}
-use Rattle.templates.specs.declared.plans.Scratches.{Scratches}
+use Rattle.rv32_program.specs.declared.Exit.TheVariants.{Ebreak as EbreakExit, Illegal as IllegalExit}
+use Rattle.rv32_program.specs.declared.CallKind.TheVariants.{Exit, Write}
+use Rattle.rv32_program.specs.Liveness.{Next as Follows}
 use Rattle.templates.specs.declared.plans.Template.TheVariants as template
-use Rattle.templates.specs.Places.{IsPlace}
-use Rattle.templates.specs.Plans.{is_flag_checked, may_poll, HasScratches, HasScratchesAt, template_at}
-use Rattle.templates.specs.Sequences.{SequenceItem, committing, with_word, to_head, constant, upper_part, lower_part, inverse, load_sequence, branch_sequence, jump_sequence, is_multiple_of_four, instruction_items, place_items, poll_first, items_of}
-use Rattle.home_directory.specs.dsm_messages.declared.messages.Need.TheVariants.{Read}
-use Rattle.home_directory.specs.flag_memory.Flag.{flag_byte}
 use Rattle.dsm_protocol.specs.node_model.Node as node
-use Rattle.dsm_protocol.specs.node_model.Node.{ProcessorState, NodeMemory, WordOutcome, Next, To, Enters, Waits, SameWord, only_moves, exit_by, is_readable_state, byte_at, native, make_call, print_byte, lane_after_call, indirect, execute}
 use Rattle.rewriting_law.proofs.templates.RegisterLemmas.{apart, equal, put_here, put_both, put_twice, put_zero}
 use Rattle.rewriting_law.proofs.templates.States.{Suits, ReadLook, Gone, Readable, Unreadable, read_look}
 use Rattle.rewriting_law.proofs.templates.Does.{OfPlace, AtHead, byte_seen, lane_at, skip_to, Commits, Leads, Does, does_later}
-use Rattle.rewriting_law.proofs.templates.Mids.{alu_add, next_aligned, own_sets}
+use Rattle.rewriting_law.proofs.templates.Mids.{alu_add, next_aligned, own_sets, head_at}
 use Rattle.rewriting_law.proofs.templates.Atomics.{reserved_does, update_does}
 use Rattle.rewriting_law.proofs.templates.Conditionals.{conditional_does}
 use Rattle.rewriting_law.proofs.templates.Checked.{asks, next_is, byte_mapped, leaves}
@@ -72,21 +43,9 @@ aligned_place program a b i h t m = go (program.code b) refl
       no_code = e;
       from = a;
       instruction = i;
-      there =
-          h;
+      there = h;
       leads = inr t;
     })
-
-head_at : (program : Program) (b : ℕ) (q : Processor) (l : ProcessorState) (x y : ℕ) → AtHead program b q l
-    → AtHead program b q (lane_at x y l)
-head_at program b q l x y h = record {
-  place = h.place;
-  running = h.running;
-  agree =
-      h.agree;
-  private = h.private;
-  written = h.written;
-}
 
 not_twice : (t : Bool) → t ≡ not (not t)
 not_twice true = refl
@@ -182,8 +141,7 @@ module _ (program : Program) (accepted : IsAccepted program) where
         → Does program OfPlace a 0 at (committing (Native (Fence rd rs1 bits)) []) 0 q l n
     fence_does rd rs1 bits at h =
         becomes 0 at (Fence rd rs1 bits) [] (to_next q) l (λ m. refl)
-        (asks program a q (Fence rd rs1 bits) head.place h) head.running
-        (λ x y. (
+        (asks program a q (Fence rd rs1 bits) head.place h) head.running (λ x y. (
           (Fence rd rs1 bits, h),
           record {
             place = next_is program accepted a q (Fence rd rs1 bits) head.place h;
@@ -263,8 +221,7 @@ module _ (program : Program) (accepted : IsAccepted program) where
         → at % 4 ≡ 0
         → (b : Bool) → is_multiple_of_four (offset_address a offset) ≡ b
         → Does program OfPlace a j at (jump_sequence b rd ((a + 4) % 2 ^ 32)
-        (offset_address a offset)) 0 q
-        l n
+        (offset_address a offset)) 0 q l n
     jump_does j rd offset at h m true al =
         let t = offset_address a offset in
         let four : t % 4 ≡ 0 = grind (arith, nat_tests) in
@@ -294,8 +251,7 @@ module _ (program : Program) (accepted : IsAccepted program) where
         let ask : request program q ≡ Becomes (with_exit q (Misaligned a)) =
         asks program a q (Jal rd offset) head.place h
         ∙ ap (λ z. request_for program q (Jumps rd (offset_address z offset))) head.place
-        ∙ ap (λ b. request_unless program q (Jumps rd t) (cond b None (Some (Misaligned q.pc))))
-        al
+        ∙ ap (λ b. request_unless program q (Jumps rd t) (cond b None (Some (Misaligned q.pc)))) al
         ∙ ap (λ z. Becomes (with_exit q (Misaligned z))) head.place in
         λ n' since. ends_here n' j at (Native (Jal 0 (pos 2))) Always [] (Misaligned a)
         (rw (off_target at m) refl) ask
@@ -367,8 +323,7 @@ module _ (program : Program) (accepted : IsAccepted program) where
               ∙ ap (λ b. request_unless program q (Branches t)
               (cond b None (Some (Misaligned q.pc)))) al in
               becomes j at (Branch (inverse c) rs1 rs2 (pos 8)) rest (after_branch q t) l
-              (λ n'. acts n' true e) ask head.running
-              (λ x y n' since. (
+              (λ n'. acts n' true e) ask head.running (λ x y n' since. (
                 refl,
                 aligned_place program a t (Branch c rs1 rs2 offset) h refl four,
                 record {
@@ -460,8 +415,7 @@ module _ (program : Program) (accepted : IsAccepted program) where
         acts n' = ap (λ z. indirect a l n' rd (offset_address z imm / 2 * 2)) (same rs1)
 
         go : (b : Bool) → eqb (t % 4) 0 ≡ b → Does program OfPlace a j at
-            (committing (Xjalr rd rs1 imm) [])
-            0 q l n
+            (committing (Xjalr rd rs1 imm) []) 0 q l n
         go true e =
             let ask : request program q ≡ Becomes (after_jump q rd t) =
             asks program a q (Jalr rd rs1 imm) head.place h
@@ -647,13 +601,7 @@ module _ (program : Program) (accepted : IsAccepted program) where
       flag_load_does program accepted a q regs rd rs1 imm h is one n at l head m
   load_does a regs q l n at k rd rs1 imm h head m false is two =
       state_load_does program accepted a q regs k rd rs1 imm h two n at l head m
-  load_does a regs q l n at Byte rd rs1 imm h head m true is one =
-      let bad : false ≡ true = is in cc
-  load_does a regs q l n at Half rd rs1 imm h head m true is one =
-      let bad : false ≡ true = is in cc
-  load_does a regs q l n at ByteU rd rs1 imm h head m true is one =
-      let bad : false ≡ true = is in cc
-  load_does a regs q l n at HalfU rd rs1 imm h head m true is one =
+  load_does a regs q l n at other rd rs1 imm h head m true is one =
       let bad : false ≡ true = is in cc
 
   -- from the head of the place of an instruction, with any admissible scratch registers
@@ -684,8 +632,7 @@ module _ (program : Program) (accepted : IsAccepted program) where
       ∙ ap (λ z. Sets rd (alu o (reg q.registers rs1) z)) same_2) refl (λ r ne d. ne (cc)) refl
   place_does a regs q l n at (Fence rd rs1 bits) h two head m =
       fence_does a q l n head rd rs1 bits at h
-  place_does a regs q l n at (Auipc rd upper) h two head m =
-      address_does a q l n head rd upper at h
+  place_does a regs q l n at (Auipc rd upper) h two head m = address_does a q l n head rd upper at h
   place_does a regs q l n at (Jal rd offset) h two head m =
       jump_does a q l n head 0 rd offset at h m (is_multiple_of_four (offset_address a offset)) refl
   place_does a regs q l n at (Jalr rd rs1 imm) h two head m =
@@ -763,8 +710,7 @@ module _ (program : Program) (accepted : IsAccepted program) where
           → HasScratchesAt (template_at e.address o) program.code e.address o e.single
           → Does program OfPlace e.address 0 at (place_items e.address e.single o) 0 q l n
       single None h scratches = stop_does e.address q l n head at h
-      single (Some i) h scratches =
-          place_does e.address e.single q l n at i h scratches head m
+      single (Some i) h scratches = place_does e.address e.single q l n at i h scratches head m
 
       go : (b : Bool) → e.polls ≡ b
           → Does program OfPlace e.address 0 at (poll_first b (place_items e.address e.single o)) 0

@@ -1,12 +1,7 @@
 -- The wants of a word, of each block the first alone.
 use Rattle.std.proofs.Common.{◌≡◌, ℕ, ◌⊎◌, ◌≤◌, cond, Bool, true, false, not, List, [], ◌∷◌, length, filter, Some, refl, sym, ap, ◌∙◌, inl, inr, arith}
 use Rattle.std.specs.Option.{option_map_or}
-use Rattle.block_layout.specs.Layout.{Shape, block_of, has_line}
-use Rattle.rv32_program.specs.Program.{line_of}
-use Rattle.rv32_step.specs.OneMemory.{Processor}
-use Rattle.templates.specs.declared.plans.PlanEntry.{PlanEntry}
-use Rattle.dsm_protocol.specs.node_model.Node.{Work, NodeMemory, Want}
-use Rattle.dsm_protocol.specs.node_model.Turns.{is_same_want, each_block_once}
+use Rattle.rewriting_law.proofs.Names.{Shape, block_of, has_line, line_of, Processor, PlanEntry, Work, NodeMemory, Want, is_same_want, each_block_once}
 use Rattle.rewriting_law.proofs.templates.States.{grants}
 use Rattle.rewriting_law.proofs.templates.Does.{AreWanted, SomeGranted}
 use Rattle.rewriting_law.proofs.words.CodeSide.{IsAmong, IsAlone, AllWanted}
@@ -18,8 +13,7 @@ module _ (layout : Shape) (work : Work) (plan : List PlanEntry)
   abbrev others : Want → List Want → List Want
   others w ws = filter (λ v. not (is_same_want layout w v)) ws
 
-  alone_among : (u w : Want) (ws : List Want) → IsAlone layout u ws
-      → IsAlone layout u (others w ws)
+  alone_among : (u w : Want) (ws : List Want) → IsAlone layout u ws → IsAlone layout u (others w ws)
   alone_among u w [] h = h
   alone_among u w (v ∷ vs) h = go (is_same_want layout w v) (alone_among u w vs h.1)
     where
@@ -49,8 +43,7 @@ module _ (layout : Shape) (work : Work) (plan : List PlanEntry)
   others_wanted : (q : Processor) (n : NodeMemory) (w : Want) (ws : List Want)
       → AllWanted layout work plan q n ws → AllWanted layout work plan q n (others w ws)
   others_wanted q n w [] h = h
-  others_wanted q n w (v ∷ vs) h =
-      go (is_same_want layout w v) (others_wanted q n w vs h.2)
+  others_wanted q n w (v ∷ vs) h = go (is_same_want layout w v) (others_wanted q n w vs h.2)
     where
       go : (t : Bool) → AllWanted layout work plan q n (others w vs)
           → AllWanted layout work plan q n (cond (not t) (v ∷ others w vs) (others w vs))
@@ -86,19 +79,14 @@ module _ (layout : Shape) (work : Work) (plan : List PlanEntry)
 
   among_others : (x w : Want) (ws : List Want) → IsAmong x (others w ws) → IsAmong x ws
   among_others x w [] h = h
-  among_others x w (v ∷ vs) h =
-      go (is_same_want layout w v) (λ g. among_others x w vs g) h
+  among_others x w (v ∷ vs) h = go (is_same_want layout w v) (λ g. among_others x w vs g) h
     where
       go : (t : Bool) → (IsAmong x (others w vs) → IsAmong x vs)
           → IsAmong x (cond (not t) (v ∷ others w vs) (others w vs)) → (x ≡ v) ⊎ IsAmong x vs
       go true later g = inr (later g)
-      go false later g = elim g [
-        | inl e ↦ inl e
-        | inr e ↦ inr (later e)
-      ]
+      go false later g = elim g [ inl e ↦ inl e | inr e ↦ inr (later e) ]
 
-  pub among_all : (x : Want) (ws : List Want) → IsAmong x (each_block_once layout ws)
-      → IsAmong x ws
+  pub among_all : (x : Want) (ws : List Want) → IsAmong x (each_block_once layout ws) → IsAmong x ws
   among_all x [] h = h
   among_all x (w ∷ ws) h = elim h [
     | inl e ↦ inl e

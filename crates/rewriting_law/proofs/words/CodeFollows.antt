@@ -2,38 +2,13 @@
 use Rattle.std.proofs.Common.{◌≡◌, ℕ, ◌+◌, ◌%◌, ◌≢◌, ◌*◌, ◌/◌, ◌^◌, ◌<◌, ◌≤◌, ◌⊎◌, Bool, true, false, eqb, List, [], ◌∷◌, ◌++◌, length, Option, refl, sym, ap, ◌∙◌, subst, inl, inr, arith, cond}
 use Rattle.std.specs.Prelude.{pos, not, ◌||◌, unwrap_or, IsSome}
 use Rattle.std.specs.Option.{option_map_or}
-use Rattle.rv32_decode.specs.Fields.{signed}
-use Rattle.block_layout.specs.Layout.{Shape}
-use Rattle.rv32_program.specs.declared.Exit.TheVariants.{Fetch}
-use Rattle.rv32_program.specs.Targets.{offset_address}
+use Rattle.rewriting_law.proofs.Names.{signed, Shape, Fetch, offset_address, reg, Processor, Access, Becomes, first_processor, request, request_at, with_exit, next_pc, RtWord, Native, MissR, MissW, Poll, Call, Xjalr, Prepare, Far, Batch, CommitKind, Never, IfNoWait, Place, PlanEntry, Instr, Lui, Auipc, Jal, Jalr, Branch, Load, Store, OpImm, ShiftImm, Op, Fence, Ecall, Ebreak, Lr, Sc, Amo, Illegal, IsAccepted, line_of, CallStep, Ends, Returns, Puts, demand_of, call_step, cut_short, Read, IsPlace, SequenceItem, ItemWord, Runs, GoesTo, commit_at, IsRewriting, head_of, item_word, is_near, number_of_word, address_of_word, distance, old_of, new_of, fetch, Work, ProcessorState, NodeMemory, Want, Move, Next, Again, To, Enters, Waits, Leaves, Resume, PastWord, SameWord, Tally, WordOutcome, only_moves, exit_by, native, execute, execute_at, next_outcome, lane_after, lane_resumed, first_lane, ByLines, both_meet, past_next, enter, make_call, print_byte, byte_at, lane_after_call, is_mapped_state, is_readable_state, need_of_run, is_exit, is_wait, commits_by, pc_at}
 use Rattle.rv32_step.specs.declared.Demand.TheVariants as demand
-use Rattle.rv32_step.specs.Registers.{reg}
-use Rattle.rv32_step.specs.OneMemory.{Processor, Access, Becomes, first_processor, request, request_at, with_exit, next_pc}
-use Rattle.runtime_words.specs.declared.RtWord.{RtWord}
-use Rattle.runtime_words.specs.declared.RtWord.TheVariants.{Native, MissR, MissW, Poll, Call, Xjalr, Prepare, Far, TrapFetch, TrapOff, TrapIllegal, TrapEbreak, Batch}
-use Rattle.templates.specs.declared.commits.CommitKind.{CommitKind}
-use Rattle.templates.specs.declared.commits.CommitKind.TheVariants.{Never, IfNoWait}
-use Rattle.templates.specs.declared.places.Place.{Place}
-use Rattle.templates.specs.declared.plans.PlanEntry.{PlanEntry}
-use Rattle.rv32_decode.specs.declared.Instr.{Instr}
-use Rattle.rv32_decode.specs.declared.Instr.TheVariants.{Lui, Auipc, Jal, Jalr, Branch, Load, Store, OpImm, ShiftImm, Op, Fence, Ecall, Ebreak, Lr, Sc, Amo, Illegal}
-use Rattle.rv32_program.specs.Program.{IsAccepted, line_of}
-use Rattle.rv32_step.specs.declared.CallStep.{CallStep}
-use Rattle.rv32_step.specs.declared.CallStep.TheVariants.{Ends, Returns, Puts}
-use Rattle.rv32_step.specs.Demands.{demand_of, call_step, cut_short}
-use Rattle.home_directory.specs.dsm_messages.declared.messages.Need.TheVariants.{Read}
-use Rattle.templates.specs.Places.{IsPlace}
-use Rattle.templates.specs.Sequences.{SequenceItem, ItemWord, Runs, GoesTo}
-use Rattle.templates.specs.Commits.{commit_at}
-use Rattle.dsm_protocol.specs.jump_map.Image.{IsRewriting, head_of, item_word, is_near, number_of_word, address_of_word, distance}
-use Rattle.dsm_protocol.specs.jump_map.Maps.{old_of, new_of, fetch}
-use Rattle.dsm_protocol.specs.node_model.Node.{Work, ProcessorState, NodeMemory, Want, Move, Next, Again, To, Enters, Waits, Leaves, Resume, PastWord, SameWord, Tally, WordOutcome, only_moves, exit_by, native, execute, execute_at, next_outcome, lane_after, lane_resumed, first_lane, ByLines, both_meet, past_next, enter, make_call, print_byte, byte_at, lane_after_call, is_mapped_state, is_readable_state, need_of_run}
-use Rattle.rewriting_law.specs.CoreRun.{is_exit, is_wait, commits_by}
-use Rattle.rewriting_law.specs.Ascents.{pc_at}
 use Rattle.rewriting_law.proofs.one_memory.Originals.{original_with}
 use Rattle.rewriting_law.proofs.words.Plans.{EntrySplit, split_at}
 use Rattle.rewriting_law.proofs.words.Fetching.{word_address, fetch_off, no_place_off, head_is, new_of_place, placed_batch}
 use Rattle.rewriting_law.proofs.words.Spots.{kind_of, own_kind, sequence}
+use Rattle.rewriting_law.proofs.templates.Mids.{head_at}
 use Rattle.rewriting_law.proofs.templates.RegisterLemmas.{put_none}
 use Rattle.rewriting_law.proofs.templates.States.{Suits, later_now}
 use Rattle.rewriting_law.proofs.templates.Does.{AtHead, Rest, turns_at, IsWhere, where_is, lane_at, Continues, Resumes, Leads, SequenceKind, skip_to, SomeGranted}
@@ -131,10 +106,7 @@ module _ (layout : Shape) (work : Work) (plan : List PlanEntry) (accepted : IsAc
           Owes st.in_batch st.place (st.before ++ st.item ∷ []) st.after (Then b move) x
 
       rises_still : (move : Move) → Rises work.program (Then false move) q
-      rises_still move = elim inn.rises [
-        | inl one ↦ inl (omega (arith, one))
-        | inr up ↦ inr up
-      ]
+      rises_still move = elim inn.rises [ inl one ↦ inl (omega (arith, one)) | inr up ↦ inr up ]
 
       module _ (r : WordOutcome) (kind : CommitKind) (is : st.item.commit ≡ kind)
           (ready : Ready → commits_by kind r ≡ true) (same : r.lane.at ≡ l.at)
@@ -164,8 +136,7 @@ module _ (layout : Shape) (work : Work) (plan : List PlanEntry) (accepted : IsAc
 
         none_or_on : (b : Bool) → st.in_batch ≡ b
             → IsWhere work.program (kind_of work.program b st.entry.entry) st.place
-            (length st.before) q
-            → (p.since ≡ 0) ⊎ (turns_at work.program q.pc ≡ false)
+            (length st.before) q → (p.since ≡ 0) ⊎ (turns_at work.program q.pc ≡ false)
         none_or_on true e there = inr there.1
         none_or_on false e there = go (turns_at work.program st.place) refl
           where
@@ -194,8 +165,7 @@ module _ (layout : Shape) (work : Work) (plan : List PlanEntry) (accepted : IsAc
         owed : (move : Move) → commits_by kind r ≡ false → OwesThen false move q
         owed move e =
             owed_then work.program plan work.image accepted rewriting p (Then false move) q l n inn
-            refl (omega arith)
-            (ap is_idle is ∙ idle_if kind r e)
+            refl (omega arith) (ap is_idle is ∙ idle_if kind r e)
             (λ g. let bad : false ≡ true = sym e ∙ ready g in cc)
 
         paid : (move : Move) → (Then true move).words + 39
@@ -298,10 +268,7 @@ module _ (layout : Shape) (work : Work) (plan : List PlanEntry) (accepted : IsAc
             x = Then false (Waits (ByLines need low high) want more)
 
             may : MaySkip st.in_batch (st.before ++ st.item ∷ []) st.after x
-            may = elim sane [
-              | inl batch ↦ inl batch
-              | inr none ↦ inr (inl none)
-            ]
+            may = elim sane [ inl batch ↦ inl batch | inr none ↦ inr (inl none) ]
 
             by_lines : (both : Bool) → left st (cond both 1 0) q
                 (record lane { at = cond both (past_next lane.at) (next_pc lane.at) }) m
@@ -380,8 +347,7 @@ module _ (layout : Shape) (work : Work) (plan : List PlanEntry) (accepted : IsAc
           let most = kept r kind is ready same runs in
           goes r kind is ready same runs (Enters target) (commits_by kind r)
           (λ y. AtHead work.program target y lane) (enter lane target (new_of work.image target))
-          refl refl
-          (λ e y up k. enter_paced work.program plan work.image accepted rewriting target
+          refl refl (λ e y up k. enter_paced work.program plan work.image accepted rewriting target
           (Then true (Enters target)) y lane local k (omega (arith, most)) up)
           (λ e k. let bad : false ≡ true = sym e ∙ sane in cc) h
       lead_follows lane local access printed tally (Waits resume want more) same runs kind is ready
@@ -457,13 +423,8 @@ module _ (layout : Shape) (work : Work) (plan : List PlanEntry) (accepted : IsAc
           refl,
           refl,
           entry_paced work.program plan work.image accepted rewriting b (Then false (To target)) q
-              (record l { at = target }) n cut target_is (record {
-                place = head.place;
-                running = head.running;
-                agree = head.agree;
-                private = head.private;
-                written = head.written;
-              }) (omega (arith, few)) (rises_still (To target)),
+              (record l { at = target }) n cut target_is
+              (head_at work.program b q l target l.off head) (omega (arith, few)) (rises_still (To target)),
           refl,
         )
 
@@ -479,12 +440,7 @@ module _ (layout : Shape) (work : Work) (plan : List PlanEntry) (accepted : IsAc
       leads_of kind (MissW w rs1 imm) h = h
       leads_of kind (Xjalr rd rs1 imm) h = h
       leads_of kind (Batch stores low high) h = h st.at
-      leads_of kind (Prepare rs1) h = h
-      leads_of kind (Far k) h = h
-      leads_of kind TrapFetch h = h
-      leads_of kind TrapOff h = h
-      leads_of kind TrapIllegal h = h
-      leads_of kind TrapEbreak h = h
+      leads_of kind other h = h
 
       -- its move is sane
       own_or_batch : (b : Bool) → st.in_batch ≡ b
@@ -524,8 +480,7 @@ module _ (layout : Shape) (work : Work) (plan : List PlanEntry) (accepted : IsAc
           (λ t. inr (inl batch.0)) (demand_of i l.registers (address st))
       native_sane i kind (inr (own, inl always)) r =
           native_moves work l n (IsSane kind r) tt (λ e. tt) (place_at st) (address st)
-          (λ t. inl (ap (λ k. commits_by k r) always))
-          (demand_of i l.registers (address st))
+          (λ t. inl (ap (λ k. commits_by k r) always)) (demand_of i l.registers (address st))
       native_sane i kind (inr (own, inr (inl none))) r =
           native_moves work l n (IsSane kind r) tt (λ e. tt) (place_at st) (address st)
           (λ t. inr (inr none)) (demand_of i l.registers (address st))
@@ -616,10 +571,7 @@ module _ (layout : Shape) (work : Work) (plan : List PlanEntry) (accepted : IsAc
           (place_at st) (address st) (λ x. tt) (offset_address (reg l.registers rs1) (pos 0))
       word_sane (Far k) what (inl batch) = absurd batch.1
       word_sane (Far k) what (inr own) = absurd own.1
-      word_sane TrapFetch what kind = tt
-      word_sane TrapOff what kind = tt
-      word_sane TrapIllegal what kind = tt
-      word_sane TrapEbreak what kind = tt
+      word_sane other what kind = tt
 
       leaves_paid : (b : ℕ) (to_head : Bool) → st.item.what ≡ GoesTo b to_head
           → st.item.commit ≡ Never → q.pc ≡ b → p.words + 1 ≤ 40 * p.commits
@@ -631,8 +583,7 @@ module _ (layout : Shape) (work : Work) (plan : List PlanEntry) (accepted : IsAc
                 subst (IsRunWord st.entry.entry.address) what h.1 in
                 apart (same ∙ sym st.entry.here))
             | inr h ↦ (let bad : true ≡ false = sym batch ∙ h.0 in cc)
-          ])
-          (λ own idles_all.
+          ]) (λ own idles_all.
           let bad : false ≡ true = led_jump false st.before st.after st.item
           (subst (AllLed false) (ap (λ b. sequence work.program b st.entry.entry) (sym own) ∙ st.split)
           (is_own st.entry.entry (work.program.code st.entry.entry.address)).led) jump idles_all in cc)
@@ -650,8 +601,7 @@ module _ (layout : Shape) (work : Work) (plan : List PlanEntry) (accepted : IsAc
           ap (λ k. commits_by k x) g.kind
           ∙ ap not (ap (λ (y : WordOutcome). is_wait y.move) (is ∙ next_is) ∙ g.calm)) in
           subst (λ (y : WordOutcome). FollowsPaced (pace_after p st.item.commit y) y st.item.commit y.move)
-          is
-          (lead_follows x.lane x.local x.access x.printed x.tally x.move
+          is (lead_follows x.lane x.local x.access x.printed x.tally x.move
           (word_at work l n (place_at st) (address st) w) (ap is_jump what) st.item.commit refl ready
           (word_sane w what (kind_of_word w what)) (leads_of st.item.commit w h))
       item_follows (GoesTo b to_head) what h low r is next_is =
@@ -683,15 +633,13 @@ module _ (layout : Shape) (work : Work) (plan : List PlanEntry) (accepted : IsAc
       -- where the next word commits, or ends the processor, it is of the place where that is
       where_on : (is_exit (next_outcome work.program work.image l n).move
           || commits_by (commit_at work.program plan (old_of work.image l.at))
-          (next_outcome work.program work.image l n)) ≡ true
-          → q.pc ≡ pc_at work l
+          (next_outcome work.program work.image l n)) ≡ true → q.pc ≡ pc_at work l
       where_on commits =
           let low = low_address work plan accepted rewriting q l n st in
           let r = next_outcome work.program work.image l n in
           item_where st.item.what (st.does n (suits, λ e. later_now n)) (omega (arith, low)) r
           (executes_at work plan accepted rewriting q l n st n)
-          (subst (λ k. (is_exit r.move || commits_by k r) ≡ true) kind_here commits)
-          ∙ sym here
+          (subst (λ k. (is_exit r.move || commits_by k r) ≡ true) kind_here commits) ∙ sym here
 
       follows_on : FollowsPaced (pace_after p (commit_at work.program plan (old_of work.image l.at))
           (next_outcome work.program work.image l n)) (next_outcome work.program work.image l n)
@@ -707,11 +655,9 @@ module _ (layout : Shape) (work : Work) (plan : List PlanEntry) (accepted : IsAc
 
     -- the next word of a node that stands where its processor does
     pub word_follows : (suits : Suits work.program n) (p : Pace) → PacedHere p q l n
-        → Follows layout work plan
-        (PacedHere (pace_after (pace_at work l p)
+        → Follows layout work plan (PacedHere (pace_after (pace_at work l p)
         (commit_at work.program plan (old_of work.image l.at))
-        (next_outcome work.program work.image l n))) q n
-        (next_outcome work.program work.image l n)
+        (next_outcome work.program work.image l n))) q n (next_outcome work.program work.image l n)
         (commit_at work.program plan (old_of work.image l.at))
         (next_outcome work.program work.image l n).move
     word_follows suits p (inl inn) = follows_on suits p inn
@@ -734,15 +680,13 @@ module _ (layout : Shape) (work : Work) (plan : List PlanEntry) (accepted : IsAc
     pub commits_there : (suits : Suits work.program n) (p : Pace) → PacedHere p q l n
         → (is_exit (next_outcome work.program work.image l n).move
         || commits_by (commit_at work.program plan (old_of work.image l.at))
-        (next_outcome work.program work.image l n)) ≡ true
-        → q.pc ≡ pc_at work l
+        (next_outcome work.program work.image l n)) ≡ true → q.pc ≡ pc_at work l
     commits_there suits p (inl inn) commits = where_on suits p inn commits
     commits_there suits p (inr out) commits =
         sym (ap (λ x. option_map_or (λ (y : Place). y.address) (old_of work.image x) l.off)
         out.off.at
         ∙ ap (λ o. option_map_or (λ (y : Place). y.address) o l.off)
-        (no_place_off work.program plan work.image rewriting)
-        ∙ out.off.off)
+        (no_place_off work.program plan work.image rewriting) ∙ out.off.off)
 
     pub rises : (p : Pace) → PacedHere p q l n → Rises work.program p q
     rises p (inl inn) = inn.rises
@@ -760,8 +704,7 @@ module _ (layout : Shape) (work : Work) (plan : List PlanEntry) (accepted : IsAc
       let at : (first_lane work me).at ≡ address_of program plan work.image accepted rewriting f
       false 0 = ap (λ o. unwrap_or o 0)
       (new_of_place program plan work.image rewriting program.entry f
-      (some_items f.entry (program.code f.entry.address)))
-      ∙ ap (word_address program f) first in
+      (some_items f.entry (program.code f.entry.address))) ∙ ap (word_address program f) first in
       single_paced program plan work.image accepted rewriting program.entry first_pace
       (first_processor (original_with layout work) me) (first_lane work me) n f at (record {
         place = refl;

@@ -1,28 +1,12 @@
 -- The code's side of the composition, as the protocol's side may use it: what the next word of a
 -- node does beside the processor that the node follows, whatever states and copy the node has been
 -- given.
-use Rattle.std.proofs.Common.{◌≡◌, ◌≢◌, ℕ, ◌+◌, ◌*◌, ◌⊎◌, Bool, true, false, ◌<◌, ◌≤◌, eqb, List, [], ◌∷◌, length, Some, None, refl, ap, ◌∙◌}
+use Rattle.std.proofs.Common.{◌≡◌, ◌≢◌, ℕ, ◌+◌, ◌*◌, ◌⊎◌, Bool, true, false, ◌<◌, ◌≤◌, List, [], ◌∷◌, length, None}
 use Rattle.std.specs.Prelude.{option_and_then, ◌||◌, if◌then◌else◌}
-use Rattle.std.specs.Option.{option_map_or}
-use Rattle.block_layout.specs.Layout.{Shape, block_of}
-use Rattle.rv32_program.specs.declared.Exit.{Exit}
-use Rattle.rv32_program.specs.Program.{Program, line_of}
-use Rattle.rv32_step.specs.Breaks.{stands_at_store, RunsToStore}
-use Rattle.rv32_step.specs.OneMemory.{Processor, Nothing, Becomes, first_processor, request, with_exit}
-use Rattle.templates.specs.declared.commits.CommitKind.{CommitKind}
-use Rattle.templates.specs.declared.plans.PlanEntry.{PlanEntry}
-use Rattle.templates.specs.Places.{IsPlace}
-use Rattle.templates.specs.Commits.{commit_at}
-use Rattle.dsm_protocol.specs.jump_map.Maps.{old_of, fetch}
-use Rattle.dsm_protocol.specs.node_model.Node.{Work, ProcessorState, NodeMemory, Want, Move, Waits, Leaves, Resume, WordOutcome, next_outcome, lane_after, lane_resumed, first_lane, takes_messages}
-use Rattle.dsm_protocol.specs.node_model.Turns.{each_block_once}
-use Rattle.rewriting_law.specs.CoreRun.{is_exit, is_wait, commits_by}
-use Rattle.rewriting_law.specs.Licence.{Licensed}
-use Rattle.rewriting_law.specs.Ascents.{pc_at}
+use Rattle.rewriting_law.proofs.Names.{Shape, block_of, Exit, Program, line_of, Processor, Nothing, Becomes, first_processor, request, with_exit, CommitKind, PlanEntry, IsPlace, commit_at, old_of, fetch, Work, ProcessorState, NodeMemory, Want, Move, Waits, Leaves, Resume, WordOutcome, next_outcome, lane_after, lane_resumed, first_lane, takes_messages, each_block_once, is_exit, is_wait, commits_by, Licensed, pc_at}
 use Rattle.rewriting_law.proofs.one_memory.Originals.{original_with}
-use Rattle.rewriting_law.proofs.templates.RegisterLemmas.{equal}
 use Rattle.rewriting_law.proofs.templates.States.{Suits, grants}
-use Rattle.rewriting_law.proofs.templates.Does.{StandsToStore, IsWanted, Commits, is_store}
+use Rattle.rewriting_law.proofs.templates.Does.{IsWanted, Commits, is_store}
 
 -- the want is one of these
 abbrev pub IsAmong : Want → List Want → Type 0
@@ -34,14 +18,6 @@ abbrev pub IsAlone : Shape → Want → List Want → Type 0
 IsAlone layout w [] = Unit {0}
 IsAlone layout w (v ∷ vs) =
     (block_of layout (line_of w.at) ≢ block_of layout (line_of v.at)) × IsAlone layout w vs
-
--- a processor at a store to an address may break a reservation in the address's block
-pub may_break : (program : Program) (layout : Shape) (q : Processor) (x b : ℕ)
-    → StandsToStore program q x → block_of layout (line_of x) ≡ Some b
-    → (stands_at_store program layout b q.registers q.pc ≡ true)
-    ⊎ RunsToStore program layout b q.registers q.pc
-may_break program layout q x b stores lies =
-    stores layout b (ap (λ o. option_map_or (λ c. eqb c b) o false) lies ∙ equal b b refl)
 
 -- how many words a node has executed, how many steps these committed, and whether the last waited
 pub record Pace : Type 0 where
@@ -94,8 +70,7 @@ module _ (layout : Shape) (work : Work) (plan : List PlanEntry) where
   -- what a word waits for is wanted, and each want is of a block of its own
   abbrev pub AllWanted : Processor → NodeMemory → List Want → Type 0
   AllWanted q n [] = Unit {0}
-  AllWanted q n (w ∷ ws) =
-      IsWanted work.program q n w × IsAlone layout w ws × AllWanted q n ws
+  AllWanted q n (w ∷ ws) = IsWanted work.program q n w × IsAlone layout w ws × AllWanted q n ws
 
   -- the word is the exit that the processor asks for
   pub record Exits (q : Processor) (n : NodeMemory) (r : WordOutcome) (e : Exit) : Type 0 where
@@ -122,8 +97,7 @@ module _ (layout : Shape) (work : Work) (plan : List PlanEntry) where
     -- original sees; and the node stands where it goes
     abbrev pub GoesOn : Processor → NodeMemory → WordOutcome → Bool → Type 0
     GoesOn q n r true =
-        Licensed n r.access
-        × Commits work.program (λ p. Suits work.program r.local
+        Licensed n r.access × Commits work.program (λ p. Suits work.program r.local
         → Stands p (lane_after work.image r.lane r.move) r.local) q n r (request work.program q)
     GoesOn q n r false =
         (r.printed ≡ None) × (r.local ≡ n) × Stands q (lane_after work.image r.lane r.move) n
@@ -133,8 +107,7 @@ module _ (layout : Shape) (work : Work) (plan : List PlanEntry) where
     abbrev pub Follows : Processor → NodeMemory → WordOutcome → CommitKind → Move → Type 0
     Follows q n r kind (Leaves e) = Exits q n r e
     Follows q n r kind (Waits resume want more) =
-        (commits_by kind r ≡ false)
-        × WaitsFor q n r resume (each_block_once layout (want ∷ more))
+        (commits_by kind r ≡ false) × WaitsFor q n r resume (each_block_once layout (want ∷ more))
     Follows q n r kind m = GoesOn q n r (commits_by kind r)
 
   pub record CodeSide : Type 1 where
@@ -142,11 +115,9 @@ module _ (layout : Shape) (work : Work) (plan : List PlanEntry) where
     pub Stands : Pace → Processor → ProcessorState → NodeMemory → Type 0
     -- the next word
     pub word_follows : (p : Pace) (q : Processor) (l : ProcessorState) (n : NodeMemory) → Suits work.program n
-        → q.exit ≡ None → Stands p q l n
-        → Follows (Stands (pace_after (pace_at work l p)
+        → q.exit ≡ None → Stands p q l n → Follows (Stands (pace_after (pace_at work l p)
         (commit_at work.program plan (old_of work.image l.at))
-        (next_outcome work.program work.image l n))) q n
-        (next_outcome work.program work.image l n)
+        (next_outcome work.program work.image l n))) q n (next_outcome work.program work.image l n)
         (commit_at work.program plan (old_of work.image l.at))
         (next_outcome work.program work.image l n).move
     -- where the next word is one before which messages are taken, and the last didn't wait, it
@@ -160,11 +131,9 @@ module _ (layout : Shape) (work : Work) (plan : List PlanEntry) where
         → Stands first_pace (first_processor (original_with layout work) me) (first_lane work me) n
     -- a word that commits is of the original address where its processor is
     pub commits_there : (p : Pace) (q : Processor) (l : ProcessorState) (n : NodeMemory) → Suits work.program n
-        → Stands p q l n
-        → (is_exit (next_outcome work.program work.image l n).move
+        → Stands p q l n → (is_exit (next_outcome work.program work.image l n).move
         || commits_by (commit_at work.program plan (old_of work.image l.at))
-        (next_outcome work.program work.image l n)) ≡ true
-        → q.pc ≡ pc_at work l
+        (next_outcome work.program work.image l n)) ≡ true → q.pc ≡ pc_at work l
     -- once two steps were made since the last poll or call, the processor is at a place of a greater
     -- address than the last
     pub rises : (p : Pace) (q : Processor) (l : ProcessorState) (n : NodeMemory) → Stands p q l n

@@ -6,20 +6,7 @@ use Rattle.std.specs.Option.{option_map, option_map_or}
 use Rattle.std.proofs.lemmas.Option.{slice_get-map, slice_get_within, none-some, same_Some}
 use Rattle.std.proofs.lemmas.Iterator.Adapters.{position_from-zero}
 use Rattle.std.proofs.lemmas.Bool.Decides.{eqb_tells, nat_tests}
-use Rattle.rv32_program.specs.Program.{Program}
-use Rattle.rv32_step.specs.OneMemory.{next_pc}
-use Rattle.runtime_words.specs.declared.RtWord.TheVariants.{TrapOff}
-use Rattle.templates.specs.declared.commits.CommitKind.TheVariants.{Never}
-use Rattle.templates.specs.declared.places.Part.{Part}
-use Rattle.templates.specs.declared.places.Part.TheVariants.{Single, Head, Fast, Fallback}
-use Rattle.templates.specs.declared.plans.PlanEntry.{PlanEntry}
-use Rattle.templates.specs.Plans.{AscendsFrom, addresses, IsAdmissible}
-use Rattle.templates.specs.Runs.{code_from}
-use Rattle.templates.specs.Sequences.{SequenceItem, batch_items}
-use Rattle.templates.specs.Commits.{part_items, commit_at}
-use Rattle.dsm_protocol.specs.jump_map.declared.image.ImageWord.{ImageWord}
-use Rattle.dsm_protocol.specs.jump_map.Image.{Cell, PlacedItem, read_cell, placed_items, address_in, part_of_entry, entry_items, words_before, head_of, item_word, words_at, plan_items, image_words, off_word, image_base, address_of_word, IsRewriting}
-use Rattle.dsm_protocol.specs.jump_map.Maps.{cell_at, is_first_of, begins_at, new_of, old_of, fetch}
+use Rattle.rewriting_law.proofs.Names.{Program, next_pc, TrapOff, Never, Part, Single, Head, Fast, Fallback, PlanEntry, AscendsFrom, addresses, IsAdmissible, code_from, SequenceItem, batch_items, part_items, commit_at, ImageWord, Cell, PlacedItem, read_cell, placed_items, address_in, part_of_entry, entry_items, words_before, head_of, item_word, words_at, plan_items, image_words, off_word, image_base, address_of_word, IsRewriting, cell_at, is_first_of, begins_at, new_of, old_of, fetch}
 use Rattle.rewriting_law.proofs.words.Plans.{EntrySplit, AllBelow, below, Follows, place_in, entry_is}
 
 pub get_left : {X : Type 0} (xs ys : List X) (k : ℕ) (x : X) → slice_get xs k ≡ Some x
@@ -100,8 +87,7 @@ is_first_item a i = is_first_of a i.place
 position_cells : (a i : ℕ) (image : List Cell)
     → position_from (begins_at a) i image ≡ position_from (is_first a) i (map read_cell image)
 position_cells a i [] = refl
-position_cells a i (c ∷ cs) =
-    ap (cond (begins_at a c) (Some i)) (position_cells a (i + 1) cs)
+position_cells a i (c ∷ cs) = ap (cond (begins_at a c) (Some i)) (position_cells a (i + 1) cs)
 
 position_words : (head : ℕ → ℕ) (at a i : ℕ) (is : List PlacedItem)
     → position_from (is_first a) i (words_at head at is) ≡ position_from (is_first_item a) i is
@@ -134,8 +120,7 @@ skip_items a i [] ys none =
 skip_items a i (x ∷ xs) ys none =
     let z : i + 1 + length xs ≡ i + suc (length xs) = omega arith in
     ap (λ t. cond t (Some i) (position_from (is_first_item a) (i + 1) (xs ++ ys))) none.0
-    ∙ skip_items a (i + 1) xs ys none.1
-    ∙ ap (λ j. position_from (is_first_item a) j ys) z
+    ∙ skip_items a (i + 1) xs ys none.1 ∙ ap (λ j. position_from (is_first_item a) j ys) z
 
 first_is_here : (a : ℕ) (address : ℕ → ℕ) (i : ℕ) (is : List SequenceItem)
     (ys : List PlacedItem) → address 0 ≡ a → 0 < length is
@@ -193,8 +178,7 @@ has_run program e part k i h = go e.run refl
     go (suc n) is = omega arith
     go zero is =
         absurd (none-some i (subst (λ n. slice_get
-        (batch_items e.address e.batch (code_from program.code e.address n) part) k ≡ Some i)
-        is h))
+        (batch_items e.address e.batch (code_from program.code e.address n) part) k ≡ Some i) is h))
 
 module _ (program : Program) where
   -- the words of the batch that starts at an entry's place
@@ -229,8 +213,7 @@ module _ (program : Program) where
   no_first_of_entry a e other =
       let t : eqb e.address a ≡ false = grind (arith, nat_tests) in
       subst (NoFirst a) (sym (entry_parts e))
-      (no_first_behind a (placed_batch e) (part_of_entry program e Single)
-      (no_first_of_batch a e)
+      (no_first_behind a (placed_batch e) (part_of_entry program e Single) (no_first_of_batch a e)
       (no_first_items a (address_in e Single) Single 0 (part_items program e Single)
       (λ j. ap (λ z. z && eqb j 0) t)))
 
@@ -271,8 +254,7 @@ module _ (program : Program) where
   words_before_is a (x ∷ xs) e after low here =
       let lt = low.0 in
       let t : eqb x.address a ≡ false = grind (arith, nat_tests) in
-      rw t (ap (λ z. length (entry_items program x) + z)
-      (words_before_is a xs e after low.1 here))
+      rw t (ap (λ z. length (entry_items program x) + z) (words_before_is a xs e after low.1 here))
 
   skip_entries : (a i : ℕ) (before after : List PlanEntry) → AllApart before a
       → position_from (is_first_item a) i (plan_items program (before ++ after))
@@ -283,8 +265,7 @@ module _ (program : Program) where
   skip_entries a i (x ∷ xs) after h =
       let n = length (entry_items program x) in
       skip_items a i (entry_items program x) (plan_items program (xs ++ after))
-      (no_first_of_entry a x h.0)
-      ∙ skip_entries a (i + n) xs after h.1
+      (no_first_of_entry a x h.0) ∙ skip_entries a (i + n) xs after h.1
       ∙ ap (λ j. position_from (is_first_item a) j (plan_items program after))
       (add_assoc i n (words_in xs))
 
@@ -434,8 +415,7 @@ module _ (program : Program) where
           ap (λ p. position_from (is_first_item a) 1 (plan_items program p)) f.split
           ∙ skip_entries a 1 f.before (e ∷ f.after) apart
           ∙ ap (λ xs. position_from (is_first_item a) (1 + words_in f.before) (xs ++ rest))
-          (entry_parts e)
-          ∙ ap (position_from (is_first_item a) (1 + words_in f.before))
+          (entry_parts e) ∙ ap (position_from (is_first_item a) (1 + words_in f.before))
           (append_assoc (placed_batch e) single rest)
           ∙ skip_items a (1 + words_in f.before) (placed_batch e) (single ++ rest)
           (no_first_of_batch a e)

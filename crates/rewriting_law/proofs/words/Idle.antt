@@ -1,24 +1,8 @@
 -- How many words of a place's sequences may commit nothing, and which of them lead out of it.
 use Rattle.std.proofs.Common.{◌≡◌, ◌≢◌, ℕ, ℤ, pos, suc, ◌+◌, ◌*◌, ◌≤◌, ◌⊎◌, Bool, true, false, List, [], ◌∷◌, ◌++◌, length, Option, Some, None, refl, ap, inl, inr, arith}
 use Rattle.std.specs.Prelude.{not, ◌||◌, ◌&&◌}
-use Rattle.rv32_decode.specs.declared.Cond.{Cond}
-use Rattle.rv32_decode.specs.declared.Width.{Width}
-use Rattle.rv32_decode.specs.declared.LoadKind.{LoadKind}
-use Rattle.rv32_decode.specs.declared.Instr.{Instr}
-use Rattle.rv32_decode.specs.declared.Instr.TheVariants.{Lui, Auipc, Jal, Jalr, Branch, Load, Store, OpImm, ShiftImm, Op, Fence, Ecall, Ebreak, Lr, Sc, Amo, Illegal}
+use Rattle.rewriting_law.proofs.Names.{Cond, Width, LoadKind, Instr, Lui, Auipc, Jal, Jalr, Branch, Load, Store, OpImm, ShiftImm, Op, Fence, Ecall, Ebreak, Lr, Sc, Amo, Illegal, Word, offset_address, CommitKind, Never, Always, IfNotFlag, IfNoWait, Native, MissR, MissW, Call, Xjalr, Batch, Far, Head, Fast, Fallback, Scratches, PlanEntry, is_flag_checked, Reach, reach_of, code_from, ItemWord, Runs, GoesTo, SequenceItem, own, checking, committing, with_word, spill_by, reload_by, spills, reloads, state_look, flag_load_sequence, read_sequence, write_sequence, load_sequence, branch_sequence, jump_sequence, is_multiple_of_four, instruction_items, place_items, poll_first, items_of, reloads_of_run, mask_readable, head_items, run_items, fast_items, batch_items, batch_sequence, to_head, spill_offset}
 use Rattle.rv32_decode.specs.declared.LoadKind.TheVariants as load_kind
-use Rattle.rv32_decode.specs.declared.Width.TheVariants.{Word}
-use Rattle.rv32_program.specs.Targets.{offset_address}
-use Rattle.templates.specs.declared.commits.CommitKind.{CommitKind}
-use Rattle.templates.specs.declared.commits.CommitKind.TheVariants.{Never, Always, IfNotFlag, IfNoWait}
-use Rattle.runtime_words.specs.declared.RtWord.TheVariants.{Native, MissR, MissW, Call, Xjalr, Batch, Far}
-use Rattle.templates.specs.declared.places.Part.TheVariants.{Head, Fast, Fallback}
-use Rattle.templates.specs.declared.plans.Scratches.{Scratches}
-use Rattle.templates.specs.declared.plans.PlanEntry.{PlanEntry}
-use Rattle.templates.specs.Plans.{is_flag_checked}
-use Rattle.templates.specs.declared.reaches.Reach.{Reach}
-use Rattle.templates.specs.Runs.{reach_of, code_from}
-use Rattle.templates.specs.Sequences.{ItemWord, Runs, GoesTo, SequenceItem, own, checking, committing, with_word, spill_by, reload_by, spills, reloads, state_look, flag_load_sequence, read_sequence, write_sequence, load_sequence, branch_sequence, jump_sequence, is_multiple_of_four, instruction_items, place_items, poll_first, items_of, reloads_of_run, mask_readable, head_items, run_items, fast_items, batch_items, batch_sequence, to_head, spill_offset}
 
 -- 1. Words that may commit nothing
 
@@ -103,8 +87,7 @@ led_jump seen (x ∷ xs) after i h jump idles_all =
     or_false false e = e
 
     go : (t : Bool) → AllLed (seen || not t) (xs ++ i ∷ after) → (t && all_idle xs) ≡ true
-        → (AllLed (seen || false) (xs ++ i ∷ after) → all_idle xs ≡ true
-        → (seen || false) ≡ true)
+        → (AllLed (seen || false) (xs ++ i ∷ after) → all_idle xs ≡ true → (seen || false) ≡ true)
         → seen ≡ true
     go true g e more = or_false seen (more g e)
     go false g e more = let bad : false ≡ true = e in cc
@@ -439,8 +422,7 @@ run_head a x reach fast =
     (run_own a 6 _ _ mask)))) in
     let states = run_own a 15 _ _ (run_own a 14 _ _ (run_own a 13 _ _ (run_own a 12 _ _
     (run_own a 11 _ _ look)))) in
-    run_spill a 18 x.s.spilled 0 x.s.register _
-    (run_spill a 17 x.t.spilled 1 x.t.register _
+    run_spill a 18 x.s.spilled 0 x.s.register _ (run_spill a 17 x.t.spilled 1 x.t.register _
     (run_spill a 16 x.u.spilled 2 x.u.register _ states))
 
 run_run : (a n : ℕ) (is : List Instr) (rest : List SequenceItem) → IsRunPart a n rest
@@ -481,7 +463,6 @@ is_batch code e = go (code_from code e.address e.run)
     go (i ∷ is) =
         let behind = e.address + 4 * length (i ∷ is) in
         let apart : behind ≢ e.address = (λ same. omega (arith, same)) in
-        run_parts e.address 19 4 3 _ _ _
-        (run_head e.address e.batch (reach_of (i ∷ is)) _)
+        run_parts e.address 19 4 3 _ _ _ (run_head e.address e.batch (reach_of (i ∷ is)) _)
         (run_fast e.address behind e.batch (i ∷ is) apart)
         (run_reloads e.address 0 e.batch [] (run_none e.address))

@@ -1,25 +1,9 @@
 -- A word leaves its processor's lane at the word, and its move says where the lane goes.
 use Rattle.std.proofs.Common.{◌≡◌, ℕ, ◌*◌, ◌/◌, ◌%◌, Bool, true, false, cond, eqb, List, [], ◌∷◌, ◌++◌, refl}
 use Rattle.std.specs.Prelude.{◌&&◌, not, pos}
-use Rattle.rv32_decode.specs.Widths.{width_of, is_aligned}
-use Rattle.rv32_decode.specs.declared.LoadKind.{LoadKind}
+use Rattle.rewriting_law.proofs.Names.{width_of, is_aligned, LoadKind, Width, Word, holds, offset_address, line_of, Demand, CallStep, Ends, Returns, Puts, reg, demand_of, call_step, RtWord, Native, MissR, MissW, Poll, Call, Xjalr, Prepare, Batch, Need, Work, ProcessorState, NodeMemory, WordOutcome, Region, Memory, region_of, load, store, store_if, make_call, native, is_mapped_state, is_readable_state, is_fixed_state, is_writable_state, execute, Want, batch, batch_by, one_refuses, unmet, need_of_run}
 use Rattle.rv32_decode.specs.declared.LoadKind.TheVariants.{Word as WordLoad}
-use Rattle.rv32_decode.specs.declared.Width.{Width}
-use Rattle.rv32_decode.specs.declared.Width.TheVariants.{Word}
-use Rattle.llsc.specs.Reservation.{holds}
-use Rattle.rv32_program.specs.Targets.{offset_address}
-use Rattle.rv32_program.specs.Program.{line_of}
-use Rattle.rv32_step.specs.declared.Demand.{Demand}
 use Rattle.rv32_step.specs.declared.Demand.TheVariants as demand
-use Rattle.rv32_step.specs.declared.CallStep.{CallStep}
-use Rattle.rv32_step.specs.declared.CallStep.TheVariants.{Ends, Returns, Puts}
-use Rattle.rv32_step.specs.Registers.{reg}
-use Rattle.rv32_step.specs.Demands.{demand_of, call_step}
-use Rattle.runtime_words.specs.declared.RtWord.{RtWord}
-use Rattle.runtime_words.specs.declared.RtWord.TheVariants.{Native, MissR, MissW, Poll, Call, Xjalr, Prepare, Far, TrapFetch, TrapOff, TrapIllegal, TrapEbreak, Batch}
-use Rattle.home_directory.specs.dsm_messages.declared.messages.Need.{Need}
-use Rattle.dsm_protocol.specs.node_model.Node as node
-use Rattle.dsm_protocol.specs.node_model.Node.{Work, ProcessorState, NodeMemory, WordOutcome, Region, Memory, StateOf, Elsewhere, region_of, load, store, store_if, make_call, native, is_mapped_state, is_readable_state, is_fixed_state, is_writable_state, execute, Want, batch, batch_by, one_refuses, unmet, need_of_run}
 
 -- a word leaves the processor's place to its move
 either_at : (b : Bool) (x y : WordOutcome) (at : ℕ) → x.lane.at ≡ at → y.lane.at ≡ at
@@ -30,16 +14,12 @@ either_at false x y at h g = g
 module _ (work : Work) (l : ProcessorState) (n : NodeMemory) where
   load_at : (k : LoadKind) (r a : ℕ) (w : Region) → (load work.program l n k r a w).lane.at ≡ l.at
   load_at k r a Memory = refl
-  load_at k r a (StateOf line) = refl
-  load_at k r a (node.Spill j) = refl
-  load_at k r a Elsewhere = refl
+  load_at k r a other = refl
 
   store_at : (width : Width) (a value : ℕ) (w : Region)
       → (store work.program l n width a value w).lane.at ≡ l.at
   store_at width a value Memory = refl
-  store_at width a value (StateOf line) = refl
-  store_at width a value (node.Spill j) = refl
-  store_at width a value Elsewhere = refl
+  store_at width a value other = refl
 
   conditional_at : (r a value : ℕ) (reserved : Bool)
       → (store_if work.program l n r a value reserved).lane.at ≡ l.at
@@ -109,8 +89,4 @@ module _ (work : Work) (l : ProcessorState) (n : NodeMemory) where
         either_at (is_aligned Word a) _ _ l.at (either_at (is_fixed_state state) _ _ l.at refl
         (either_at (holds n.reservation a && not (is_writable_state state)) _ _ l.at refl refl))
         refl
-    word_at (Far k) = refl
-    word_at TrapFetch = refl
-    word_at TrapOff = refl
-    word_at TrapIllegal = refl
-    word_at TrapEbreak = refl
+    word_at other = refl

@@ -1,19 +1,10 @@
 -- Where the words of sequences lead.
 use Rattle.std.proofs.Common.{ℕ, ◌%◌, Bool, true, false, cond, eqb, List, [], ◌∷◌, ◌++◌}
 use Rattle.std.specs.Prelude.{◌&&◌, not}
-use Rattle.rv32_decode.specs.Widths.{width_of, is_aligned}
-use Rattle.rv32_decode.specs.declared.LoadKind.{LoadKind}
+use Rattle.rewriting_law.proofs.Names.{width_of, is_aligned, LoadKind, Width, Word, Exit, holds, line_of, Demand, Need, Work, ProcessorState, NodeMemory, Move, Next, To, Waits, Leaves, PastWord, ByLines, WordOutcome, Region, Memory, region_of, load, store, store_if, native, is_mapped_state, is_readable_state, is_fixed_state, is_writable_state, Want, batch, batch_by, one_refuses, unmet}
 use Rattle.rv32_decode.specs.declared.LoadKind.TheVariants.{Word as WordLoad}
-use Rattle.rv32_decode.specs.declared.Width.{Width}
-use Rattle.rv32_decode.specs.declared.Width.TheVariants.{Word}
-use Rattle.rv32_program.specs.declared.Exit.{Exit}
-use Rattle.llsc.specs.Reservation.{holds}
-use Rattle.rv32_program.specs.Program.{line_of}
-use Rattle.rv32_step.specs.declared.Demand.{Demand}
 use Rattle.rv32_step.specs.declared.Demand.TheVariants as demand
-use Rattle.home_directory.specs.dsm_messages.declared.messages.Need.{Need}
 use Rattle.dsm_protocol.specs.node_model.Node as node
-use Rattle.dsm_protocol.specs.node_model.Node.{Work, ProcessorState, NodeMemory, Move, Next, To, Waits, Leaves, PastWord, ByLines, WordOutcome, Region, Memory, StateOf, Elsewhere, region_of, load, store, store_if, native, is_mapped_state, is_readable_state, is_fixed_state, is_writable_state, Want, batch, batch_by, one_refuses, unmet}
 
 pub either_move : (P : Move → Type 0) (b : Bool) (x y : WordOutcome) → P x.move → P y.move
     → P (cond b x y).move
@@ -24,16 +15,12 @@ module _ (work : Work) (l : ProcessorState) (n : NodeMemory) (P : Move → Type 
     (leaves : (e : Exit) → P (Leaves e)) where
   load_moves : (k : LoadKind) (r a : ℕ) (w : Region) → P (load work.program l n k r a w).move
   load_moves k r a Memory = next
-  load_moves k r a (StateOf line) = next
-  load_moves k r a (node.Spill j) = next
-  load_moves k r a Elsewhere = next
+  load_moves k r a other = next
 
   store_moves : (width : Width) (a value : ℕ) (w : Region)
       → P (store work.program l n width a value w).move
   store_moves width a value Memory = next
-  store_moves width a value (StateOf line) = next
-  store_moves width a value (node.Spill j) = next
-  store_moves width a value Elsewhere = next
+  store_moves width a value other = next
 
   conditional_moves : (r a value : ℕ) (reserved : Bool)
       → P (store_if work.program l n r a value reserved).move

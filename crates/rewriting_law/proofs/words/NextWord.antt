@@ -2,29 +2,7 @@
 use Rattle.std.proofs.Common.{◌≡◌, ℕ, ◌+◌, ◌^◌, ◌<◌, ◌≤◌, ◌⊎◌, Bool, true, false, List, [], ◌∷◌, ◌++◌, length, Some, refl, sym, ap, ◌∙◌, subst, inl, inr, arith, cond}
 use Rattle.std.specs.Prelude.{◌||◌, option_and_then}
 use Rattle.std.specs.Option.{option_map_or}
-use Rattle.rv32_decode.specs.Fields.{signed}
-use Rattle.rv32_decode.specs.declared.Instr.{Instr}
-use Rattle.rv32_decode.specs.declared.Instr.TheVariants.{Jal}
-use Rattle.rv32_step.specs.declared.Demand.TheVariants as demand
-use Rattle.rv32_step.specs.OneMemory.{Processor, next_pc}
-use Rattle.runtime_words.specs.declared.RtWord.{RtWord}
-use Rattle.runtime_words.specs.declared.RtWord.TheVariants.{Native, MissR, MissW, Poll, Call, Xjalr, Prepare, Far, TrapFetch, TrapOff, TrapIllegal, TrapEbreak, Batch}
-use Rattle.templates.specs.declared.commits.CommitKind.{CommitKind}
-use Rattle.templates.specs.declared.commits.CommitKind.TheVariants.{Never, Always, IfNotFlag, IfNoWait}
-use Rattle.templates.specs.declared.places.Place.{Place}
-use Rattle.templates.specs.declared.plans.PlanEntry.{PlanEntry}
-use Rattle.rv32_program.specs.Program.{IsAccepted, line_of}
-use Rattle.rv32_step.specs.declared.CallStep.TheVariants.{Puts}
-use Rattle.rv32_step.specs.Demands.{call_step, cut_short}
-use Rattle.home_directory.specs.dsm_messages.declared.messages.Need.TheVariants.{Read}
-use Rattle.templates.specs.Places.{IsPlace}
-use Rattle.templates.specs.Sequences.{SequenceItem, ItemWord, Runs, GoesTo}
-use Rattle.templates.specs.Commits.{commit_at}
-use Rattle.dsm_protocol.specs.jump_map.Image.{IsRewriting, head_of, item_word, is_near, number_of_word, distance}
-use Rattle.dsm_protocol.specs.jump_map.Maps.{old_of, fetch}
-use Rattle.dsm_protocol.specs.node_model.Node.{Work, ProcessorState, NodeMemory, Move, Next, Again, To, Enters, Waits, Leaves, SameWord, WordOutcome, only_moves, execute, execute_at, next_outcome, takes_messages, make_call, print_byte, byte_at, lane_after_call, is_mapped_state, is_readable_state}
-use Rattle.rewriting_law.specs.CoreRun.{is_exit, is_wait, commits_by}
-use Rattle.rewriting_law.specs.Ascents.{pc_at}
+use Rattle.rewriting_law.proofs.Names.{signed, Instr, Jal, Processor, next_pc, RtWord, Native, MissR, MissW, Poll, Call, Xjalr, Prepare, Far, TrapFetch, TrapOff, TrapIllegal, TrapEbreak, Batch, CommitKind, Never, Always, Place, PlanEntry, IsAccepted, line_of, Puts, call_step, cut_short, Read, IsPlace, SequenceItem, ItemWord, Runs, GoesTo, commit_at, IsRewriting, head_of, item_word, is_near, number_of_word, distance, old_of, fetch, Work, ProcessorState, NodeMemory, Move, Next, Again, To, Enters, Waits, Leaves, SameWord, WordOutcome, only_moves, execute, execute_at, next_outcome, takes_messages, make_call, print_byte, byte_at, lane_after_call, is_mapped_state, is_readable_state, is_exit, is_wait, commits_by, pc_at}
 use Rattle.rewriting_law.proofs.words.Plans.{place_in}
 use Rattle.rewriting_law.proofs.words.Fetching.{word_address, fetch_word, fetch_off, place_of_word, commit_of_word, in_range, word_of, placed_item}
 use Rattle.rewriting_law.proofs.words.Spots.{Spot, kind_of, sequence, number}
@@ -41,15 +19,12 @@ pub idle_if : (kind : CommitKind) (r : WordOutcome) → commits_by kind r ≡ fa
     → is_idle kind ≡ true
 idle_if Never r e = refl
 idle_if Always r e = let bad : true ≡ false = e in cc
-idle_if IfNotFlag r e = refl
-idle_if IfNoWait r e = refl
+idle_if other r e = refl
 
 pub may_commit : (kind : CommitKind) (r : WordOutcome) → commits_by kind r ≡ true
     → is_never kind ≡ false
 may_commit Never r e = let bad : false ≡ true = e in cc
-may_commit Always r e = refl
-may_commit IfNotFlag r e = refl
-may_commit IfNoWait r e = refl
+may_commit other r e = refl
 
 -- a jump takes no messages
 never_takes : (near : Bool) (i : Instr) (k : ℕ)
@@ -146,8 +121,7 @@ module _ (work : Work) (plan : List PlanEntry) (accepted : IsAccepted work.progr
       ap (λ x. option_map_or (λ (y : Place). y.address) (old_of work.image x) l.off) st.at
       ∙ ap (λ o. option_map_or (λ (y : Place). y.address) o l.off)
       (place_of_word work.program plan work.image rewriting st.place st.entry (number_at st)
-      sp.part sp.word st.item sp.item sp.there)
-      ∙ sp.address
+      sp.part sp.word st.item sp.item sp.there) ∙ sp.address
 
   -- its kind of commit
   pub kind_is : (st : StandsHere) → commit_at work.program plan (old_of work.image l.at)
@@ -273,8 +247,7 @@ module _ (work : Work) (plan : List PlanEntry) (accepted : IsAccepted work.progr
       continues_where kind a k (λ p. (x y : ℕ) → K 0 p (lane_at x y r.lane) r.local) r
       (commits_by m r) h commits
   leads_where kind a k at K r m Again h commits =
-      continues_where kind a k (λ p. AtHead work.program a p r.lane) r (commits_by m r) h.2
-      commits
+      continues_where kind a k (λ p. AtHead work.program a p r.lane) r (commits_by m r) h.2 commits
   leads_where kind a k at K r m (To target) h commits =
       continues_where kind a k (λ p. (x y : ℕ) → K h.0 p (lane_at x y r.lane) r.local) r
       (commits_by m r) h.2 commits

@@ -1,18 +1,7 @@
 -- Where a node stands between two words, with how many words it has executed for each step.
 use Rattle.std.proofs.Common.{◌≡◌, ◌≢◌, ℕ, zero, suc, ◌+◌, ◌*◌, ◌<◌, ◌≤◌, ◌⊎◌, Bool, true, false, List, [], ◌∷◌, ◌++◌, length, Option, Some, None, refl, sym, ap, ◌∙◌, subst, inl, inr, arith, append-nil, append_assoc, length-append}
 use Rattle.std.specs.Prelude.{IsSome, IsTrue, ◌||◌}
-use Rattle.rv32_decode.specs.declared.Instr.{Instr}
-use Rattle.rv32_program.specs.Program.{Program, IsAccepted}
-use Rattle.rv32_step.specs.OneMemory.{Processor, next_pc}
-use Rattle.templates.specs.declared.commits.CommitKind.TheVariants.{Never, IfNoWait}
-use Rattle.templates.specs.declared.plans.PlanEntry.{PlanEntry}
-use Rattle.templates.specs.Places.{IsPlace}
-use Rattle.templates.specs.Plans.{may_poll, HasScratchesAt, template_at}
-use Rattle.templates.specs.Sequences.{SequenceItem}
-use Rattle.dsm_protocol.specs.jump_map.Image.{Cell, IsRewriting}
-use Rattle.dsm_protocol.specs.jump_map.Maps.{new_of}
-use Rattle.dsm_protocol.specs.node_model.Node.{ProcessorState, NodeMemory, enter, next_outcome}
-use Rattle.rewriting_law.specs.CoreRun.{is_wait}
+use Rattle.rewriting_law.proofs.Names.{Instr, Program, IsAccepted, Processor, next_pc, Never, IfNoWait, PlanEntry, IsPlace, may_poll, HasScratchesAt, template_at, SequenceItem, Cell, IsRewriting, new_of, ProcessorState, NodeMemory, enter, next_outcome, is_wait}
 use Rattle.rewriting_law.proofs.words.CodeSide.{Pace, Rises}
 use Rattle.rewriting_law.proofs.words.Plans.{EntrySplit, follows}
 use Rattle.rewriting_law.proofs.words.Fetching.{word_address, next_split, new_of_place, new_of_none, AllApart, member, absent, placed_batch}
@@ -20,6 +9,7 @@ use Rattle.rewriting_law.proofs.words.Spots.{kind_of, own_kind, sequence, number
 use Rattle.rewriting_law.proofs.words.Idle.{idle, idles, is_idle, all_idle, all_idle_more, idle_append, idle_counts, is_jump, has_jump, is_own, is_batch}
 use Rattle.rewriting_law.proofs.words.Turns.{all_jumps, jumps_behind}
 use Rattle.rewriting_law.proofs.words.Standing.{Stands, Off, serves, address_of, some_items, next_at}
+use Rattle.rewriting_law.proofs.templates.Mids.{head_at}
 use Rattle.rewriting_law.proofs.templates.Does.{AtHead, turns_at, skip_to, Does, OfPlace, Falls}
 use Rattle.rewriting_law.proofs.templates.Templates.{entry_does}
 use Rattle.rewriting_law.proofs.batches.RunDoes.{run_does}
@@ -149,11 +139,11 @@ module _ (program : Program) (plan : List PlanEntry) (image : List Cell)
     owes = inl (inl (pc, few, λ own jump. refl));
   })
 
-  pub single_paced : (a : ℕ) (p : Pace) (q : Processor) (l : ProcessorState) (n : NodeMemory)
-      (f : EntrySplit plan a) → l.at ≡ at_word f false 0 → AtHead program a q l
-      → p.words ≤ 40 * p.commits + 26 → Rises program p q → Paced p q l n
-  single_paced a p q l n f at head few rises =
-      let here = f.here in
+  -- what a place's own sequence does from its head
+  own_does : (a : ℕ) (q : Processor) (l : ProcessorState) (n : NodeMemory) (f : EntrySplit plan a)
+      → AtHead program a q l
+      → Does program OfPlace a 0 (at_word f false 0) (sequence program false f.entry) 0 q l n
+  own_does a q l n f head =
       let e = f.entry in
       let o = program.code e.address in
       let head_at = at_word f false 0 in
@@ -164,9 +154,15 @@ module _ (program : Program) (plan : List PlanEntry) (image : List Cell)
       let polls : IsTrue e.polls → IsTrue (may_poll (template_at e.address o)) =
       λ h. subst (λ t. IsTrue (may_poll t)) entry_serves.template (entry_serves.may_poll h) in
       let does = entry_does program accepted e q l n head_at o refl scratches polls
-      (subst (λ z. AtHead program z q l) (sym here) head) (omega arith) in
-      go (sequence program false e) refl (some_items e o)
-      (subst (λ z. Does program OfPlace z 0 head_at (sequence program false e) 0 q l n) here does)
+      (subst (λ z. AtHead program z q l) (sym f.here) head) (omega arith) in
+      subst (λ z. Does program OfPlace z 0 head_at (sequence program false e) 0 q l n) f.here does
+
+  pub single_paced : (a : ℕ) (p : Pace) (q : Processor) (l : ProcessorState) (n : NodeMemory)
+      (f : EntrySplit plan a) → l.at ≡ at_word f false 0 → AtHead program a q l
+      → p.words ≤ 40 * p.commits + 26 → Rises program p q → Paced p q l n
+  single_paced a p q l n f at head few rises =
+      go (sequence program false f.entry) refl
+      (some_items f.entry (program.code f.entry.address)) (own_does a q l n f head)
     where
       go : (is : List SequenceItem) → sequence program false f.entry ≡ is → 0 < length is
           → Does program OfPlace a 0 (at_word f false 0) is 0 q l n → Paced p q l n
@@ -211,13 +207,8 @@ module _ (program : Program) (plan : List PlanEntry) (image : List Cell)
         (some_items f.entry (program.code f.entry.address))
         ∙ ap (λ k. Some (word_address program f k)) first in
         subst (λ o. Paced p q (enter l a o) n) (sym new)
-        (single_paced a p q (record l { at = at_word f false 0 }) n f refl (record {
-          place = head.place;
-          running = head.running;
-          agree = head.agree;
-          private = head.private;
-          written = head.written;
-        }) (omega (arith, few)) rises))
+        (single_paced a p q (record l { at = at_word f false 0 }) n f refl
+        (head_at program a q l (at_word f false 0) l.off head) (omega (arith, few)) rises))
     | inr apart ↦
         subst (λ o. Paced p q (enter l a o) n)
         (sym (new_of_none program plan image rewriting a apart)) (inr (record {
@@ -251,19 +242,6 @@ module _ (program : Program) (plan : List PlanEntry) (image : List Cell)
       → is_wait (next_outcome program image l n).move ≡ false → p.words ≤ 40 * p.commits + 27
       → Rises program p q → Paced p q l n
   ready_paced a p q l n f i is split at head waited kind calm few rises =
-      let e = f.entry in
-      let o = program.code e.address in
-      let head_at = at_word f false 0 in
-      let entry_serves = serves program plan image accepted rewriting f in
-      let scratches : HasScratchesAt (template_at e.address o) program.code e.address o e.single =
-      subst (λ t. HasScratchesAt t program.code e.address o e.single) entry_serves.template
-      entry_serves.single in
-      let polls : IsTrue e.polls → IsTrue (may_poll (template_at e.address o)) =
-      λ h. subst (λ t. IsTrue (may_poll t)) entry_serves.template (entry_serves.may_poll h) in
-      let does = entry_does program accepted e q l n head_at o refl scratches polls
-      (subst (λ z. AtHead program z q l) (sym f.here) head) (omega arith) in
-      let here = subst (λ z. Does program OfPlace z 0 head_at (sequence program false e) 0 q l n)
-      f.here does in
       inl (record {
         rises = rises;
         opens = inl refl;
@@ -276,7 +254,8 @@ module _ (program : Program) (plan : List PlanEntry) (image : List Cell)
           after = is;
           split = split;
           at = at;
-          does = subst (λ xs. Does program OfPlace a 0 head_at xs 0 q l n) split here;
+          does = subst (λ xs. Does program OfPlace a 0 (at_word f false 0) xs 0 q l n) split
+              (own_does a q l n f head);
         };
         owes = inr (record {
           waited = waited;
@@ -312,8 +291,7 @@ module _ (program : Program) (plan : List PlanEntry) (image : List Cell)
         | inl owed ↦ (let pc = owed.0 in let there = behind.1.place in absurd (omega (arith, pc, there)))
         | inr paid ↦ omega (arith, paid, most)
       ]) in
-      entry_paced (a + 4) p q l n next.next
-      (at ∙ ap (λ k. word_address program f k)
+      entry_paced (a + 4) p q l n next.next (at ∙ ap (λ k. word_address program f k)
       (ap (λ xs. number program false f.entry (length xs)) (sym e)
       ∙ sym (entry_length program f.entry)) ∙ sym next.starts) behind.1 few rises
 
@@ -352,14 +330,11 @@ module _ (program : Program) (plan : List PlanEntry) (image : List Cell)
         | inl none ↦ absurd (omega (arith, none))
         | inr some ↦ some
       ]) in
-      lands_paced s a p q l n f b (before ++ i ∷ []) is
-      (e ∙ sym (append_assoc before (i ∷ []) is))
-      (at ∙ ap (skip_to s) word)
-      (subst (λ k. Does program (kind_of program b f.entry) a k
+      lands_paced s a p q l n f b (before ++ i ∷ []) is (e ∙ sym (append_assoc before (i ∷ []) is))
+      (at ∙ ap (skip_to s) word) (subst (λ k. Does program (kind_of program b f.entry) a k
       (at_word f b (length (before ++ i ∷ []))) is s q l n) count
       (subst (λ x. Does program (kind_of program b f.entry) a (length before + 1) x is s q l n)
-      word does))
-      (inr (behind skip)) (skips b a before is i p q skip owes) rises
+      word does)) (inr (behind skip)) (skips b a before is i p q skip owes) rises
       (λ own turns. elim (opens own turns) [
         | inl none ↦ inl none
         | inr jumps ↦ inr (jumps_behind i is jumps)
@@ -393,13 +368,11 @@ module _ (program : Program) (plan : List PlanEntry) (image : List Cell)
       let word = next_at program plan image accepted rewriting st.place f b before st.item st.after
       st.split in
       lands_paced s st.place p q' l' n' f b (before ++ st.item ∷ []) st.after
-      (st.split ∙ sym (append_assoc before (st.item ∷ []) st.after))
-      (at ∙ ap (skip_to s) word)
+      (st.split ∙ sym (append_assoc before (st.item ∷ []) st.after)) (at ∙ ap (skip_to s) word)
       (subst (λ k. Does program (kind_of program b f.entry) st.place k
       (at_word f b (length (before ++ st.item ∷ []))) st.after s q' l' n') count
       (subst (λ x. Does program (kind_of program b f.entry) st.place (length before + 1) x st.after s
-      q' l' n') word does))
-      may owes rises opens
+      q' l' n') word does)) may owes rises opens
 
   -- at the first word of the place's own sequence again
   pub again_paced : (p : Pace) (q q' : Processor) (l l' : ProcessorState) (n n' : NodeMemory)
@@ -414,8 +387,7 @@ module _ (program : Program) (plan : List PlanEntry) (image : List Cell)
 
   -- a word that commits, or that doesn't
   pub paid_then : (p r : Pace) (q : Processor) (l : ProcessorState) (n : NodeMemory) (inn : InPace p q l n)
-      → r.words ≡ p.words + 1 → r.commits ≡ p.commits + 1
-      → r.words + 39
+      → r.words ≡ p.words + 1 → r.commits ≡ p.commits + 1 → r.words + 39
       ≤ 40 * r.commits + spent inn.stands.in_batch (inn.stands.before ++ inn.stands.item ∷ [])
   paid_then p r q l n inn words commits =
       let st = inn.stands in
@@ -455,8 +427,7 @@ module _ (program : Program) (plan : List PlanEntry) (image : List Cell)
         | inr ready ↦ absurd (never ready)
       ]
     where
-      or_jump : (t : Bool) (is : List SequenceItem) → has_jump is ≡ true
-          → (t || has_jump is) ≡ true
+      or_jump : (t : Bool) (is : List SequenceItem) → has_jump is ≡ true → (t || has_jump is) ≡ true
       or_jump true is e = refl
       or_jump false is e = e
 
@@ -508,8 +479,7 @@ module _ (program : Program) (plan : List PlanEntry) (image : List Cell)
       jumps true is e = refl
       jumps false is e = let bad : false ≡ true = e in cc
 
-      go : (t : Bool) → inn.stands.in_batch ≡ t
-          → ((q.pc ≡ inn.stands.place)
+      go : (t : Bool) → inn.stands.in_batch ≡ t → ((q.pc ≡ inn.stands.place)
           × (p.words ≤ 40 * p.commits + spent inn.stands.in_batch inn.stands.before)
           × (inn.stands.in_batch ≡ false → has_jump (inn.stands.item ∷ inn.stands.after) ≡ true
           → all_idle inn.stands.before ≡ true)) → ⊥

@@ -2,17 +2,7 @@
 use Rattle.std.proofs.Common.{◌≡◌, ℕ, zero, suc, ◌+◌, ◌-◌, ◌*◌, ◌%◌, ◌<◌, ◌≤◌, Bool, true, false, cond, eqb, leb, ◌&&◌, List, [], ◌∷◌, ◌++◌, length, get_or, Option, Some, None, refl, sym, ap, ◌∙◌, subst, inl, inr, arith, append_assoc, leb-true}
 use Rattle.std.specs.Prelude.{Contains, IsSome, find}
 use Rattle.std.proofs.lemmas.Bool.Decides.{nat_tests}
-use Rattle.rv32_decode.specs.declared.Instr.{Instr}
-use Rattle.rv32_program.specs.Program.{Program, IsAccepted}
-use Rattle.templates.specs.declared.plans.PlanEntry.{PlanEntry}
-use Rattle.templates.specs.Places.{IsPlace}
-use Rattle.templates.specs.declared.places.Part.{Part}
-use Rattle.templates.specs.declared.places.Part.TheVariants.{Single, Head, Fast, Fallback}
-use Rattle.templates.specs.declared.places.Place.{Place}
-use Rattle.templates.specs.Runs.{IsInRun}
-use Rattle.templates.specs.Plans.{AscendsFrom, addresses, RunsApart, IsAdmissible}
-use Rattle.templates.specs.Commits.{is_word_by, is_word_of}
-use Rattle.dsm_protocol.specs.jump_map.Image.{reload_count, address_in}
+use Rattle.rewriting_law.proofs.Names.{Instr, Program, IsAccepted, PlanEntry, IsPlace, Part, Single, Head, Fast, Fallback, Place, IsInRun, AscendsFrom, addresses, RunsApart, IsAdmissible, is_word_by, is_word_of, reload_count, address_in}
 
 -- the plan, cut at the entry of an address
 pub record EntrySplit (plan : List PlanEntry) (a : ℕ) : Type 0 where
@@ -30,8 +20,7 @@ find_at (e ∷ es) zero a lt is = record {
   entry = e;
   after = es;
   split = refl;
-  here =
-      is;
+  here = is;
 }
 find_at (e ∷ es) (suc k) a lt is =
     let f = find_at es k a (omega arith) is in
@@ -39,8 +28,7 @@ find_at (e ∷ es) (suc k) a lt is =
       before = e ∷ f.before;
       entry = f.entry;
       after = f.after;
-      split =
-          ap (λ xs. e ∷ xs) f.split;
+      split = ap (λ xs. e ∷ xs) f.split;
       here = f.here;
     }
 
@@ -119,8 +107,7 @@ next_place program a i accepted h = go (program.code (a + 4)) refl
           no_code = e;
           from = a;
           instruction = i;
-          there =
-              h;
+          there = h;
           leads = inl refl;
         })
 
@@ -164,8 +151,7 @@ contains_middle (x ∷ xs) e ys =
     let r = contains_middle xs e ys in (suc r.0, omega (arith, r.1), r.2)
 
 -- an entry of a plan is one of its entries
-pub is_contained : {plan : List PlanEntry} {a : ℕ} (f : EntrySplit plan a)
-    → Contains plan f.entry
+pub is_contained : {plan : List PlanEntry} {a : ℕ} (f : EntrySplit plan a) → Contains plan f.entry
 is_contained f =
     subst (λ p. Contains p f.entry) (sym f.split) (contains_middle f.before f.entry f.after)
 
@@ -260,8 +246,7 @@ module _ (program : Program) (plan : List PlanEntry) (a : ℕ) (adm : IsAdmissib
 
   found_by : (p : PlanEntry → Bool) → NonePasses p f.before → p f.entry ≡ true
       → find p plan ≡ Some f.entry
-  found_by p none here =
-      ap (find p) f.split ∙ find_behind p f.before f.entry f.after none here
+  found_by p none here = ap (find p) f.split ∙ find_behind p f.before f.entry f.after none here
 
   own_entry : find (is_word_by Single f.entry.address) plan ≡ Some f.entry
   own_entry =
@@ -278,8 +263,7 @@ module _ (program : Program) (plan : List PlanEntry) (a : ℕ) (adm : IsAdmissib
       let b = address_in f.entry Fast k in
       let inside = lies_in_run f.entry k (some refl) in
       let member = is_contained f in
-      found_by (is_word_by Fast b)
-      (none_inside plan adm.apart f.entry b member inside f.before
+      found_by (is_word_by Fast b) (none_inside plan adm.apart f.entry b member inside f.before
       (λ x h. subst (λ p. Contains p x) (sym f.split)
       (contains_before f.before (f.entry ∷ f.after) x h.0 h.1 h.2)) all_before)
       (is_inside plan adm.apart f.entry b member inside)

@@ -3,17 +3,7 @@
 use Rattle.std.proofs.Common.{◌≡◌, ℕ, zero, suc, ◌+◌, ◌-◌, ◌*◌, ◌<◌, ◌≤◌, ◌⊎◌, Bool, true, false, cond, leb, ◌&&◌, List, [], ◌∷◌, ◌++◌, length, Some, refl, sym, ap, ◌∙◌, inl, inr, arith, zero-add, length-append}
 use Rattle.std.specs.Prelude.{slice_get}
 use Rattle.std.proofs.lemmas.Bool.Decides.{nat_tests}
-use Rattle.rv32_decode.specs.declared.Instr.{Instr}
-use Rattle.rv32_program.specs.Program.{Program}
-use Rattle.templates.specs.declared.places.Part.{Part}
-use Rattle.templates.specs.declared.places.Part.TheVariants.{Single, Head, Fast, Fallback}
-use Rattle.templates.specs.declared.plans.PlanEntry.{PlanEntry}
-use Rattle.templates.specs.declared.plans.Scratches.{Scratches}
-use Rattle.templates.specs.Runs.{code_from}
-use Rattle.templates.specs.Plans.{StartsNoRun, StartsRun}
-use Rattle.templates.specs.Sequences.{SequenceItem, items_of, reload, reload_by, reloads_of_run, run_items, to_head, fast_items, batch_items, batch_sequence}
-use Rattle.templates.specs.Commits.{part_items}
-use Rattle.dsm_protocol.specs.jump_map.Image.{reload_count, address_in, PlacedItem, part_of_entry, entry_items}
+use Rattle.rewriting_law.proofs.Names.{Instr, Program, Part, Single, Head, Fast, Fallback, PlanEntry, Scratches, code_from, StartsNoRun, StartsRun, SequenceItem, items_of, reload, reload_by, reloads_of_run, run_items, to_head, fast_items, batch_items, batch_sequence, part_items, reload_count, address_in, PlacedItem, part_of_entry, entry_items}
 use Rattle.rewriting_law.proofs.templates.Does.{SequenceKind, OfPlace, OfRun, place_of, place_in_batch}
 use Rattle.rewriting_law.proofs.words.Fetching.{get_left, get_right, get_item, items_length, placed_at, placed_item, has_run, placed_batch, entry_parts}
 
@@ -54,8 +44,7 @@ fast_covers a count x (i ∷ is) coded some =
 -- 2. Where words belong
 
 first_of_run : (e : PlanEntry) → address_in e Fast 0 ≡ e.address
-first_of_run e =
-    go (leb (reload_count e.batch) 0 && leb (suc 0) (reload_count e.batch + e.run))
+first_of_run e = go (leb (reload_count e.batch) 0 && leb (suc 0) (reload_count e.batch + e.run))
   where
     go : (t : Bool) → cond t (e.address + 4 * (0 - reload_count e.batch)) e.address ≡ e.address
     go true = omega arith
@@ -197,8 +186,7 @@ module _ (program : Program) where
           part = Fast;
           word = j;
           item = h;
-          there = ap (slice_get (entry_items program e)) at
-              ∙ get_right (words_of Head)
+          there = ap (slice_get (entry_items program e)) at ∙ get_right (words_of Head)
               (words_of Fast ++ (words_of Fallback ++ words_of Single)) j
               ∙ get_left (words_of Fast) (words_of Fallback ++ words_of Single) j
               (placed_item e Fast j i) (get_part Fast j h);
@@ -206,8 +194,7 @@ module _ (program : Program) where
         }
 
     fallback_spot : StartsRun program.code e → (m j : ℕ)
-        → k ≡ length (part_items program e Head) + m
-        → m ≡ length (part_items program e Fast) + j
+        → k ≡ length (part_items program e Head) + m → m ≡ length (part_items program e Fast) + j
         → slice_get (part_items program e Fallback) j ≡ Some i → BatchSpot
     fallback_spot run m j is more h =
         let heads = items_length (address_in e Head) Head 0 (part_items program e Head) in

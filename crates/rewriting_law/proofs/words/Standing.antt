@@ -2,20 +2,7 @@
 use Rattle.std.proofs.Common.{◌≡◌, ℕ, suc, ◌+◌, ◌%◌, ◌^◌, ◌<◌, Bool, true, false, List, [], ◌∷◌, ◌++◌, length, Option, Some, None, refl, sym, ap, ◌∙◌, inl, inr, arith, length-append}
 use Rattle.std.specs.Prelude.{ℤ, slice_get}
 use Rattle.std.proofs.lemmas.Bool.Decides.{leb_tells}
-use Rattle.rv32_decode.specs.Fields.{signed}
-use Rattle.rv32_decode.specs.declared.Cond.{Cond}
-use Rattle.rv32_decode.specs.declared.LoadKind.{LoadKind}
-use Rattle.rv32_decode.specs.declared.Instr.{Instr}
-use Rattle.rv32_decode.specs.declared.Instr.TheVariants.{Lui, Auipc, Jal, Jalr, Branch, Load, Store, OpImm, ShiftImm, Op, Fence, Ecall, Ebreak, Lr, Sc, Amo, Illegal}
-use Rattle.rv32_program.specs.Targets.{offset_address}
-use Rattle.rv32_program.specs.Program.{Program, IsAccepted}
-use Rattle.rv32_step.specs.OneMemory.{Processor, next_pc}
-use Rattle.templates.specs.declared.plans.PlanEntry.{PlanEntry}
-use Rattle.templates.specs.declared.plans.Scratches.{Scratches}
-use Rattle.templates.specs.Plans.{is_flag_checked, Serves}
-use Rattle.templates.specs.Sequences.{SequenceItem, instruction_items, place_items, poll_first, items_of, spills, spill, spill_by, load_sequence, branch_sequence, jump_sequence, is_multiple_of_four}
-use Rattle.dsm_protocol.specs.jump_map.Image.{Cell, IsRewriting, image_base, distance}
-use Rattle.dsm_protocol.specs.node_model.Node.{ProcessorState, NodeMemory}
+use Rattle.rewriting_law.proofs.Names.{signed, Cond, LoadKind, Instr, Lui, Auipc, Jal, Jalr, Branch, Load, Store, OpImm, ShiftImm, Op, Fence, Ecall, Ebreak, Lr, Sc, Amo, Illegal, offset_address, Program, IsAccepted, Processor, next_pc, PlanEntry, Scratches, is_flag_checked, Serves, SequenceItem, instruction_items, place_items, poll_first, items_of, spills, spill, spill_by, load_sequence, branch_sequence, jump_sequence, is_multiple_of_four, Cell, IsRewriting, image_base, distance, ProcessorState, NodeMemory}
 use Rattle.rewriting_law.proofs.words.Plans.{EntrySplit, is_contained}
 use Rattle.rewriting_law.proofs.words.Fetching.{word_address, in_range, next_word}
 use Rattle.rewriting_law.proofs.words.Spots.{Spot, kind_of, sequence, number, next_number, spot}
@@ -136,8 +123,7 @@ module _ (program : Program) (plan : List PlanEntry) (image : List Cell)
   spot_of f b k i there = spot program f.entry k i b (serves f).run there
 
   pub item_there : {q : Processor} {l : ProcessorState} {n : NodeMemory} (st : Stands q l n)
-      → slice_get (sequence program st.in_batch st.entry.entry) (length st.before)
-      ≡ Some st.item
+      → slice_get (sequence program st.in_batch st.entry.entry) (length st.before) ≡ Some st.item
   item_there st =
       ap (λ xs. slice_get xs (length st.before)) st.split ∙ get_middle st.before st.item st.after
 

@@ -4,26 +4,8 @@ use Rattle.std.proofs.Common.{◌≡◌, ℕ, ◌+◌, ◌%◌, ◌<◌, cond, e
 use Rattle.std.specs.Prelude.{ℤ, ◌&&◌, IsSome, IsTrue, option_and_then}
 use Rattle.std.specs.Option.{option_map_or}
 use Rattle.std.proofs.lemmas.Bool.Decides.{nat_tests}
-use Rattle.rv32_decode.specs.declared.Cond.{Cond}
-use Rattle.rv32_decode.specs.declared.Instr.{Instr}
-use Rattle.rv32_decode.specs.declared.Instr.TheVariants.{Lui, Auipc, Jal, Jalr, Branch, Load, Store, OpImm, ShiftImm, Op, Fence, Ecall, Ebreak, Lr, Sc, Amo, Illegal}
-use Rattle.rv32_ops.specs.Operations.{taken}
-use Rattle.llsc.specs.Reservation.{holds}
-use Rattle.rv32_program.specs.declared.Exit.{Exit}
-use Rattle.rv32_program.specs.declared.Exit.TheVariants.{Fetch, Misaligned, Ebreak as EbreakExit, Illegal as IllegalExit}
-use Rattle.rv32_program.specs.Program.{Program, IsAccepted, class_at}
-use Rattle.rv32_program.specs.Targets.{offset_address, aligned, aligned_target, target_of}
-use Rattle.rv32_step.specs.Registers.{reg}
-use Rattle.rv32_step.specs.Demands.{demand_of, branch_demand}
-use Rattle.rv32_step.specs.OneMemory.{Processor, Request, Becomes, Prints, LoadsFrom, StoresTo, ReservesAt, StoresWhere, UpdatesAt, request, request_at, request_by, request_unless, exit_of_demand, after_conditional, next_pc}
-use Rattle.runtime_words.specs.declared.RtWord.TheVariants.{Poll, Call}
-use Rattle.templates.specs.declared.commits.CommitKind.{CommitKind}
-use Rattle.templates.specs.declared.commits.CommitKind.TheVariants.{Never}
-use Rattle.templates.specs.declared.plans.PlanEntry.{PlanEntry}
-use Rattle.templates.specs.Places.{IsPlace}
-use Rattle.templates.specs.Plans.{closes_loop_at}
-use Rattle.templates.specs.Sequences.{ItemWord, Runs, SequenceItem, branch_sequence, jump_sequence, is_multiple_of_four, place_items, poll_first, items_of}
-use Rattle.dsm_protocol.specs.node_model.Node.{NodeMemory, WordOutcome}
+use Rattle.rewriting_law.proofs.Names.{Cond, Instr, Lui, Auipc, Jal, Jalr, Branch, Load, Store, OpImm, ShiftImm, Op, Fence, Ecall, Ebreak, Lr, Sc, Amo, Illegal, taken, holds, Exit, Fetch, Misaligned, Program, IsAccepted, class_at, offset_address, aligned, aligned_target, target_of, reg, demand_of, branch_demand, Processor, Request, Becomes, Prints, LoadsFrom, StoresTo, ReservesAt, StoresWhere, UpdatesAt, request, request_at, request_by, request_unless, exit_of_demand, after_conditional, next_pc, Poll, Call, CommitKind, Never, PlanEntry, IsPlace, closes_loop_at, ItemWord, Runs, SequenceItem, branch_sequence, jump_sequence, is_multiple_of_four, place_items, poll_first, items_of, NodeMemory, WordOutcome}
+use Rattle.rv32_program.specs.declared.Exit.TheVariants.{Ebreak as EbreakExit, Illegal as IllegalExit}
 use Rattle.rewriting_law.proofs.words.Idle.{is_jump}
 use Rattle.rewriting_law.proofs.words.Plans.{next_place}
 use Rattle.rewriting_law.proofs.templates.Does.{Commits, may_turn, turns_at}
