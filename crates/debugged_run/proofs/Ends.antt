@@ -1,31 +1,13 @@
 -- Where motions end, from where the moves of a run do.
-use Rattle.std.proofs.Common.{◌≡◌, ℕ, ◌<◌, ◌≤◌, true, List, length, Option, Some, None, sym, subst, arith}
-use Rattle.gdb_remote.specs.declared.request.Direction.TheVariants.{Forwards, Backwards}
+use Rattle.std.proofs.Common.{◌≡◌, ℕ, ◌<◌, ◌≤◌, true, List, length, Option, Some, None, subst, arith}
+use Rattle.gdb_remote.specs.declared.request.Direction.TheVariants.{Forwards}
 use Rattle.gdb_remote.specs.declared.request.Point.{Point}
 use Rattle.gdb_session.specs.declared.target.MotionReach.{MotionReach}
 use Rattle.gdb_session.specs.declared.target.Stop.{Stop as Told}
 use Rattle.time_machine.specs.declared.stops.StopPoint.{StopPoint}
-use Rattle.time_machine.specs.Moves.{EndsForward, EndsBackward}
+use Rattle.time_machine.specs.Moves.{EndsBackward}
 use Rattle.time_machine.specs.Stand.{Run as Picked}
-use Rattle.debugged_run.specs.Motions.{Goes, GoesFrom, stops_of, place_here, point_met, watches, told_forwards, told_here, told_backwards, before_access, behind_access}
-
-module _ (r : Picked) (reach : MotionReach) (points : List Point) (stops : List StopPoint) (from : ℕ)
-    (met : Option ℕ) (end to : ℕ) (told : Told) (are : stops ≡ stops_of reach points) where
-  pub went_forwards : (last : ℕ) → last ≡ length r.picks → EndsForward r stops from last met end
-      → told ≡ told_forwards reach r.picks (point_met reach points met) met end
-      → to ≡ before_access (point_met reach points met) end → place_here r reach points from ≡ None
-      → Goes Forwards r reach points from told to
-  went_forwards last all ends tells stands none =
-      let there : EndsForward r (stops_of reach points) from last met end =
-      subst (λ (s : List StopPoint). EndsForward r s from last met end) are ends in
-      subst (λ x. GoesFrom x r reach points from told to) (sym none)
-      (met, end, subst (λ (n : ℕ). EndsForward r (stops_of reach points) from n met end) all there, tells, stands)
-
-  pub went_backwards : EndsBackward r stops from met end
-      → told ≡ told_backwards r.picks (point_met reach points met) met end
-      → to ≡ behind_access (point_met reach points met) end → Goes Backwards r reach points from told to
-  went_backwards ends tells stands =
-      (met, end, subst (λ (s : List StopPoint). EndsBackward r s from met end) are ends, tells, stands)
+use Rattle.debugged_run.specs.Motions.{Goes, GoesFrom, place_here, point_met, watches, told_here}
 
 -- behind a run backwards that met a watchpoint a pick comes
 pub pick_comes : (r : Picked) (reach : MotionReach) (points : List Point) (stops : List StopPoint) (from : ℕ) (met : Option ℕ) (end : ℕ)

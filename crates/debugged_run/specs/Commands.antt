@@ -1,6 +1,7 @@
 -- What the commands of `monitor` tell.
-use Rattle.std.specs.Prelude.{◌≡◌, ℕ, ◌-◌, ◌==◌, if◌then◌else◌, List, ◌++◌, length, bytes_eq, codes}
+use Rattle.std.specs.Prelude.{◌≡◌, ℕ, ◌-◌, ◌==◌, if◌then◌else◌, List, ◌++◌, length, Option, None, bytes_eq, codes}
 use Rattle.std.specs.Fmt.{decimal}
+use Rattle.gdb_session.specs.declared.target.Stop.{Stop}
 use Rattle.one_memory.specs.declared.Pick.{Pick}
 use Rattle.time_machine.specs.Stand.{Stand, state_at}
 use Rattle.debugged_run.specs.Motions.{mover_at}
@@ -28,5 +29,5 @@ told_of s command =
     else unknown_text
 
 -- a command leaves the run where it stands
-abbrev pub Tells : Stand → (command told : List ℕ) → Stand → Type 0
-Tells s command told t = (told ≡ told_of s command) × (t ≡ s)
+abbrev pub Tells : Stand → (command told : List ℕ) → Option Stop → Stand → Type 0
+Tells s command told stop t = (told ≡ told_of s command) × (stop ≡ None) × (t ≡ s)

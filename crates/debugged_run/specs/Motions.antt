@@ -99,7 +99,7 @@ watches x = option_map_or is_watch x false
 
 -- The debugger awaits of RISC-V that a watchpoint stops a run before the access: it makes the step
 -- itself, and then looks whether the bytes changed. So a run that met one goes back over the access,
--- and a run backwards stands behind it.
+-- and a run backwards stands after it.
 abbrev pub before_access : Option Point → (position : ℕ) → ℕ
 before_access x n = if watches x then n - 1 else n
 
@@ -107,7 +107,7 @@ abbrev pub behind_access : Option Point → (position : ℕ) → ℕ
 behind_access x n = if watches x then n + 1 else n
 
 -- forwards, an address is met by a run of any processor before the pick that begins there, and all
--- else behind the pick
+-- else after the pick
 abbrev pub pick_met : MotionReach → Option Point → (position : ℕ) → ℕ
 pick_met Run x n = if option_map_or is_place x false then n else n - 1
 pick_met (RunOf p) x n = n - 1
@@ -116,7 +116,7 @@ pick_met (Step p) x n = n - 1
 abbrev pub why_at : Point → Why
 why_at x = why.Point x.kind x.address
 
--- why a motion stopped: at a point, or behind the step that it was to make; or it met nothing
+-- why a motion stopped: at a point, or after the step that it was to make; or it met nothing
 abbrev pub why_of : Option ℕ → Option Point → (otherwise : Why) → Why
 why_of None x otherwise = otherwise
 why_of (Some i) x otherwise = option_map_or why_at x why.Stepped

@@ -8,7 +8,7 @@ use Rattle.gdb_session.specs.declared.target.Doing.TheVariants.{Runs, Exited}
 use Rattle.gdb_session.specs.Views.{View}
 use Rattle.time_machine.specs.Stand.{Stand, original_in, state_at}
 
--- a register as instructions read it, or behind the 32 the address of the next instruction
+-- a register as instructions read it, or after the 32 the address of the next instruction
 abbrev pub register_seen : Processor → (number : ℕ) → ℕ
 register_seen q n = if n == 32 then q.pc else reg q.registers n
 

@@ -1,6 +1,8 @@
 #![tactic(auto)]
 //! A run on one memory as a target of the debugger: what is seen from a position in it, where its
 //! motions end, and the commands of `monitor`.
+//!
+//! It hands on [`time_machine`], which it moves, and [`gdb_session`], which asks it to.
 
 mod commands;
 mod run;

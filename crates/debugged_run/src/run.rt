@@ -18,7 +18,7 @@ use crate::stops::{
 use block_layout::Layout;
 use exec_map::Program;
 use gdb_session::gdb_remote::{Direction, Point};
-use gdb_session::{Doing, Motion, MotionReach, PC, Stop, Target};
+use gdb_session::{Doing, Motion, MotionReach, PC, Stop, Target, Told};
 use run_limits::NodeCount;
 use rv32_decode::Reg;
 use std::alloc::{AllocError, Global};
@@ -47,8 +47,8 @@ impl<'a> Model for DebuggedRun<'a> {
 }
 
 impl<'a> DebuggedRun<'a> {
-    /// The run of these picks, at its start. Of what it goes through it keeps copies of the
-    /// processors, in so many megabytes of 2^20 bytes.
+    /// The run of these picks, at its start. It keeps copies of the processors on its way, in at
+    /// most `megabytes` megabytes of 2^20 bytes.
     pub fn new(
         alloc: Global,
         program: &'a Program<'a>,
@@ -217,7 +217,7 @@ impl<'a> DebuggedRun<'a> {
         Ok(told_backwards(self.machine.picks(), point, hit, end))
     }
 
-    /// Goes behind the access that comes next, if the point that was met watches it.
+    /// Goes after the access that comes next, if the point that was met watches it.
     fn go_behind_access(&mut self, point: Option<Point>) -> Result<(), AllocError>
         requires { watches point ≡ true → self.old.position < length self.old.run.picks }
         ensures run { self.new.run ≡ self.old.run }
@@ -281,7 +281,7 @@ impl<'a> Target for DebuggedRun<'a> {
     ghost tells = { Tells };
 
     fn processors(&self) -> u16 {
-        u16::from(self.nodes.number())
+        u16::from(self.nodes.as_u8())
     }
 
     fn register(&self, processor: u16, number: u32) -> u32 {
@@ -303,7 +303,10 @@ impl<'a> Target for DebuggedRun<'a> {
         self.go_on(motion, points)
     }
 
-    fn command(&mut self, alloc: Global, text: &[u8]) -> Result<Vec<u8>, AllocError> {
-        self.tell(alloc, text)
+    fn command(&mut self, alloc: Global, text: &[u8]) -> Result<Told, AllocError> {
+        Ok(Told {
+            text: self.tell(alloc, text)?,
+            stop: None,
+        })
     }
 }

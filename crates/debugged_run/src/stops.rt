@@ -216,7 +216,7 @@ pub(crate) fn told_here(picks: &[Pick], point: Point, position: usize) -> Told
 }
 
 /// The pick that a stop concerns: forwards, an address is met by a run of any processor before the
-/// pick that begins there, and all else behind the pick.
+/// pick that begins there, and all else after the pick.
 fn pick_met(reach: MotionReach, point: Option<Point>, position: usize) -> usize
     ensures { result ≡ model.pick_met reach point position }
 {
@@ -237,7 +237,7 @@ fn why_at(point: Point) -> Why
     }
 }
 
-/// Why a motion stopped: at a point, or behind the step that it was to make; or it met nothing.
+/// Why a motion stopped: at a point, or after the step that it was to make; or it met nothing.
 fn why_of(stop: Option<usize>, point: Option<Point>, otherwise: Why) -> Why
     ensures { result ≡ model.why_of stop point otherwise }
 {

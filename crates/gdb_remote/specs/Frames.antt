@@ -7,7 +7,7 @@ use Rattle.gdb_remote.specs.Hexadecimal.{byte_digits}
 abbrev pub checksum : List ℕ → ℕ
 checksum sent = sum sent % 256
 
--- `#`, `$`, `*` and `}` are sent behind a `}`, and differ there in the bit of 32
+-- `#`, `$`, `*` and `}` are sent after a `}`, and differ there in the bit of 32
 abbrev pub escape_of : ℕ → List ℕ
 escape_of b =
     if b == 35 || (b == 36 || (b == 42 || b == 125)) then 125 ∷ bit_xor b 32 ∷ [] else b ∷ []

@@ -29,7 +29,7 @@ pair_value high low =
     option_and_then (λ h. option_and_then (λ l. Some (16 * h + l)) (digit_value low))
     (digit_value high)
 
--- the number that digits write behind those of a number, if it has at most 64 bits
+-- the number that digits write after those of a number, if it has at most 64 bits
 abbrev pub number_behind : ℕ → List ℕ → Option ℕ
 number_behind n [] = Some n
 number_behind n (c ∷ cs) =

@@ -53,7 +53,7 @@ gained r sent meant =
     then quiet (record { phase = Within; body = r.body ++ meant ∷ []; sum = (r.sum + sent) % 256 })
     else quiet (in_phase Skipping r)
 
--- `#` ends what is sent, and `$` begins another packet; a byte behind a `}` is escaped
+-- `#` ends what is sent, and `$` begins another packet; a byte after a `}` is escaped
 abbrev pub within_step : Reading → ℕ → Step
 within_step r b =
     if b == 35 then quiet (in_phase High r)

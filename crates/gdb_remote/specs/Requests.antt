@@ -21,7 +21,7 @@ infixl 10 ◌>>=◌
 abbrev pub ◌>>=◌ : {A B : Type 0} → Option A → (A → Option B) → Option B
 o >>= f = option_and_then f o
 
--- what stands before the first of this byte, and behind it
+-- what stands before the first of this byte, and after it
 abbrev pub cut : ℕ → List ℕ → Option (List ℕ × List ℕ)
 cut at text = option_map (λ i. (take i text, drop (i + 1) text)) (position (λ b. b == at) text)
 
@@ -107,7 +107,7 @@ abbrev pub first_action : List ℕ → Option DebuggerRequest
 first_action action =
     unwrap_or (option_map (λ p. thread_of p.1 >>= act p.0) (cut 58 action)) (act action All)
 
--- the request of a word and what stands behind it
+-- the request of a word and what stands after it
 abbrev pub request_with : Keyword → List ℕ → DebuggerRequest
 request_with word.Status rest = alone rest (Look look.Status)
 request_with word.Registers rest = alone rest (Look look.Registers)

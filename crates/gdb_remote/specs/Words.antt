@@ -50,7 +50,7 @@ all_words =
 abbrev pub begins_with : List ℕ → List ℕ → Bool
 begins_with head text = bytes_eq (take (length head) text) head
 
--- the first word with which a text begins, and what stands behind it
+-- the first word with which a text begins, and what stands after it
 abbrev pub found_word : List Keyword → List ℕ → Option (Keyword × List ℕ)
 found_word [] text = None
 found_word (w ∷ ws) text =

@@ -1,4 +1,4 @@
-//! What stands behind the word of a request.
+//! What stands after the word of a request.
 
 ghost use Rattle.std.specs.Prelude.{◌≡◌, ◌<◌, ◌==◌, Some, None, IfSome, MatchOption};
 ghost use Rattle.std.specs.Prelude.{length, position};
@@ -57,7 +57,7 @@ fn place_of(text: &[u8], at: u8) -> Option<usize>
     text.iter().position(|byte| *byte == at)
 }
 
-/// What stands before the first of this byte, and behind it.
+/// What stands before the first of this byte, and after it.
 fn cut(text: &[u8], at: u8) -> Option<(&[u8], &[u8])>
     ensures { MatchOption result (model.cut at text.now ≡ None)
         (λ p. model.cut at text.now ≡ Some (p.0.now, p.1.now)) }

@@ -6,7 +6,7 @@ ghost use Rattle.gdb_remote.specs.Frames.{checksum, escape_of, framed};
 use crate::hexadecimal::push_byte;
 use std::alloc::{AllocError, Global};
 
-/// What a byte behind it is escaped by.
+/// What a byte after it is escaped by.
 pub(crate) const ESCAPE: u8 = b'}';
 
 /// The bit in which an escaped byte differs.

@@ -29,7 +29,7 @@ pub fn packet_law()
         → reading_after r (one ++ other) ≡ reading_after (reading_after r one) other }
 {}
 
-/// A request that begins with a word is read as one of this word, whatever stands behind it. A
+/// A request that begins with a word is read as one of this word, whatever stands after it. A
 /// caller uses the clause; the call does nothing.
 pub fn word_law()
     ensures { (w : Words) (rest : List ℕ)

@@ -16,24 +16,24 @@ pub const PACKET_SIZE: usize = 4096;
 pub const INTERRUPT: u8 = 3;
 
 /// Where a reader stands.
-#[derive(Clone, Copy, Debug)]
+#[derive(Clone, Copy)]
 pub enum ReaderState {
     /// Between two packets.
     Between,
-    /// Behind a `$`.
+    /// After a `$`.
     Within,
-    /// Behind a `}` that escapes the next byte.
+    /// After a `}` that escapes the next byte.
     Escaped,
-    /// Behind the `#`.
+    /// After the `#`.
     High,
-    /// Behind the first digit of the checksum.
+    /// After the first digit of the checksum.
     Low { high: u8 },
     /// In a packet that is too long.
     Skipping,
 }
 
 /// What a byte ends.
-#[derive(Clone, Copy, Debug)]
+#[derive(Clone, Copy)]
 pub enum PacketEvent {
     /// A packet, with the checksum that it has to have.
     Packet,

@@ -21,7 +21,7 @@ const STEP: Extent = Extent::Step {
 };
 
 /// A thread, as a request names it.
-#[derive(Clone, Copy, Debug)]
+#[derive(Clone, Copy)]
 pub enum Thread {
     All,
     Any,
@@ -30,7 +30,7 @@ pub enum Thread {
 }
 
 /// What a point stops.
-#[derive(Clone, Copy, Debug)]
+#[derive(Clone, Copy)]
 pub enum PointKind {
     /// An execution, where the debugger would write a breakpoint into memory.
     Software,
@@ -45,7 +45,7 @@ pub enum PointKind {
 }
 
 /// A breakpoint or a watchpoint, of any processor.
-#[derive(Clone, Copy, Debug)]
+#[derive(Clone, Copy)]
 pub struct Point {
     pub kind: PointKind,
     pub address: u32,
@@ -54,14 +54,14 @@ pub struct Point {
 }
 
 /// Which way a run goes.
-#[derive(Clone, Copy, Debug)]
+#[derive(Clone, Copy)]
 pub enum Direction {
     Forwards,
     Backwards,
 }
 
 /// What only looks: nothing is changed by it.
-#[derive(Clone, Copy, Debug)]
+#[derive(Clone, Copy)]
 pub enum Look {
     /// Why the run stopped last.
     Status,
@@ -75,7 +75,7 @@ pub enum Look {
     Description { offset: u64, length: u64 },
     /// The threads.
     Threads,
-    /// The threads behind those that were told, of which there are none.
+    /// The threads after those that were told; there are none.
     MoreThreads,
     /// Whether there is such a thread.
     IsAlive { thread: Thread },
@@ -87,9 +87,9 @@ pub enum Look {
 }
 
 /// What sets something for later requests.
-#[derive(Clone, Copy, Debug)]
+#[derive(Clone, Copy)]
 pub enum SessionSetting {
-    /// The thread of which registers and memory are told.
+    /// The thread whose registers and memory are told.
     Choose { thread: Thread },
     /// The thread that steps.
     ChooseToMove { thread: Thread },
@@ -100,7 +100,7 @@ pub enum SessionSetting {
 }
 
 /// How far a run goes.
-#[derive(Clone, Copy, Debug)]
+#[derive(Clone, Copy)]
 pub enum Extent {
     /// To a point of this thread, or to the end of the run.
     Run { thread: Thread },
@@ -109,7 +109,7 @@ pub enum Extent {
 }
 
 /// What a debugger asks for.
-#[derive(Clone, Copy, Debug)]
+#[derive(Clone, Copy)]
 pub enum DebuggerRequest {
     Look {
         look: Look,
@@ -125,7 +125,7 @@ pub enum DebuggerRequest {
         direction: Direction,
         extent: Extent,
     },
-    /// A command for the target, whose text stands behind the word.
+    /// A command for the target, whose text stands after the word.
     Monitor,
     /// The debugger leaves.
     Detach,
@@ -150,7 +150,7 @@ pub fn request_of(text: &[u8]) -> DebuggerRequest
     }
 }
 
-/// The request of a word and what stands behind it.
+/// The request of a word and what stands after it.
 fn request_with(word: Keyword, rest: &[u8]) -> DebuggerRequest
     ensures { result ≡ request_with word rest.now }
 {

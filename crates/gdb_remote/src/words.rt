@@ -4,7 +4,7 @@ ghost use Rattle.std.specs.Prelude.{◌≡◌, MatchOption, None, Some};
 ghost use Rattle.gdb_remote.specs.Words.{all_words, found_word, word_text};
 
 /// A word with which a request begins. None is the beginning of another.
-#[derive(Clone, Copy, Debug)]
+#[derive(Clone, Copy)]
 pub enum Keyword {
     Status,
     Registers,
@@ -118,7 +118,7 @@ impl Keyword {
     }
 }
 
-/// The word with which a text begins, and what stands behind it.
+/// The word with which a text begins, and what stands after it.
 pub(crate) fn word_of(text: &[u8]) -> Option<(Keyword, &[u8])>
     ensures { MatchOption result (found_word all_words text.now ≡ None)
         (λ p. found_word all_words text.now ≡ Some (p.0, p.1.now)) }
@@ -126,7 +126,7 @@ pub(crate) fn word_of(text: &[u8]) -> Option<(Keyword, &[u8])>
     word_among(&WORDS, text)
 }
 
-/// The first of these words with which a text begins, and what stands behind it.
+/// The first of these words with which a text begins, and what stands after it.
 fn word_among<'a>(words: &[Keyword], text: &'a [u8]) -> Option<(Keyword, &'a [u8])>
     ensures { MatchOption result (found_word words.now text.now ≡ None)
         (λ p. found_word words.now text.now ≡ Some (p.0, p.1.now)) }

@@ -64,7 +64,7 @@ streams i i_after o o_after =
     record { input = i; input_after = i_after; output = o; output_after = o_after }
 
 module _ {T : Type 0} (view : T → View) (does : T → ℕ → Doing → Type 0) (moves : T → Motion → List Point → Stop → T → Type 0)
-    (tells : T → List ℕ → List ℕ → T → Type 0) where
+    (tells : T → List ℕ → List ℕ → Option Stop → T → Type 0) where
   -- one byte more
   pub serves_more : (s : Standing T) (heard put : List ℕ) (m : Standing T) (byte : ℕ) (piece : List ℕ) (x : Standing T)
       → Serves view does moves tells s heard put m → Hears view does moves tells m byte piece x

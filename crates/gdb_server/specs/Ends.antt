@@ -36,7 +36,7 @@ IsEnd Killed after heard rest = after ≡ IsKilled
 
 -- the bytes put are a transcript of the bytes that came, up to this standing
 pub record HasServed {T : Type 0} (view : T → View) (does : T → ℕ → Doing → Type 0)
-    (moves : T → Motion → List Point → Stop → T → Type 0) (tells : T → List ℕ → List ℕ → T → Type 0)
+    (moves : T → Motion → List Point → Stop → T → Type 0) (tells : T → List ℕ → List ℕ → Option Stop → T → Type 0)
     (t : T) (io : Streams) (end : ServeEnd) (last : T) : Type 0 where
   pub heard : List ℕ
   pub put : List ℕ
@@ -49,7 +49,7 @@ pub record HasServed {T : Type 0} (view : T → View) (does : T → ℕ → Doin
 
 -- the beginning of what is put for a byte: at once, or with the answer
 abbrev pub IsBeginning : {T : Type 0} → (T → View) → (T → ℕ → Doing → Type 0)
-    → (T → Motion → List Point → Stop → T → Type 0) → (T → List ℕ → List ℕ → T → Type 0)
+    → (T → Motion → List Point → Stop → T → Type 0) → (T → List ℕ → List ℕ → Option Stop → T → Type 0)
     → Standing T → (byte : ℕ) → (piece : List ℕ) → Type 0
 IsBeginning {T} view does moves tells s byte piece = (k : ℕ)
     × ((piece ≡ take k (put_at_once s.server byte))
@@ -59,7 +59,7 @@ IsBeginning {T} view does moves tells s byte piece = (k : ℕ)
 -- The bytes put are a transcript of all bytes that came but the last, and the beginning of what is
 -- put for that one.
 pub record HasBroken {T : Type 0} (view : T → View) (does : T → ℕ → Doing → Type 0)
-    (moves : T → Motion → List Point → Stop → T → Type 0) (tells : T → List ℕ → List ℕ → T → Type 0)
+    (moves : T → Motion → List Point → Stop → T → Type 0) (tells : T → List ℕ → List ℕ → Option Stop → T → Type 0)
     (t : T) (io : Streams) : Type 0 where
   pub heard : List ℕ
   pub put : List ℕ
@@ -73,7 +73,7 @@ pub record HasBroken {T : Type 0} (view : T → View) (does : T → ℕ → Doin
 
 -- The input failed: the bytes put are a transcript of the bytes that came.
 pub record HasStopped {T : Type 0} (view : T → View) (does : T → ℕ → Doing → Type 0)
-    (moves : T → Motion → List Point → Stop → T → Type 0) (tells : T → List ℕ → List ℕ → T → Type 0)
+    (moves : T → Motion → List Point → Stop → T → Type 0) (tells : T → List ℕ → List ℕ → Option Stop → T → Type 0)
     (t : T) (io : Streams) : Type 0 where
   pub heard : List ℕ
   pub put : List ℕ
@@ -84,7 +84,7 @@ pub record HasStopped {T : Type 0} (view : T → View) (does : T → ℕ → Doi
 
 -- what a fault left
 abbrev pub Fails : {T : Type 0} → (T → View) → (T → ℕ → Doing → Type 0)
-    → (T → Motion → List Point → Stop → T → Type 0) → (T → List ℕ → List ℕ → T → Type 0)
+    → (T → Motion → List Point → Stop → T → Type 0) → (T → List ℕ → List ℕ → Option Stop → T → Type 0)
     → T → Streams → ServeError → Type 0
 Fails view does moves tells t io Input =
     HasStopped view does moves tells t io × Rose io.input.faults io.input_after.faults

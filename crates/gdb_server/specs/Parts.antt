@@ -1,5 +1,5 @@
 -- Helps the code alone: what one byte does, and what is put of it.
-use Rattle.std.specs.Prelude.{◌≡◌, ℕ, ◌⊎◌, List, [], take}
+use Rattle.std.specs.Prelude.{◌≡◌, ℕ, ◌⊎◌, List, [], take, Option}
 use Rattle.dsm_io.specs.Causes.{Appends, Rose}
 use Rattle.dsm_io.specs.States.{SinkState}
 use Rattle.gdb_session.specs.gdb_remote.declared.request.Point.{Point}
@@ -33,7 +33,7 @@ pub record IsBroken (before now : SinkState) (piece : List ℕ) (e : ServeError)
   pub rises : RisesBy e before now
 
 pub record HasAnswered {T : Type 0} (view : T → View) (does : T → ℕ → Doing → Type 0)
-    (moves : T → Motion → List Point → Stop → T → Type 0) (tells : T → List ℕ → List ℕ → T → Type 0)
+    (moves : T → Motion → List Point → Stop → T → Type 0) (tells : T → List ℕ → List ℕ → Option Stop → T → Type 0)
     (s : Server) (t : T) (x : Standing T) (before now : SinkState) : Type 0 where
   pub packet : List ℕ
   pub answers : IsAnswered view does moves tells s t packet x
@@ -41,7 +41,7 @@ pub record HasAnswered {T : Type 0} (view : T → View) (does : T → ℕ → Do
 
 -- a part of the packet of an answer was put, or nothing
 pub record BreaksAnswerOff {T : Type 0} (view : T → View) (does : T → ℕ → Doing → Type 0)
-    (moves : T → Motion → List Point → Stop → T → Type 0) (tells : T → List ℕ → List ℕ → T → Type 0)
+    (moves : T → Motion → List Point → Stop → T → Type 0) (tells : T → List ℕ → List ℕ → Option Stop → T → Type 0)
     (s : Server) (t : T) (before now : SinkState) (e : ServeError) : Type 0 where
   pub k : ℕ
   pub piece : List ℕ
@@ -51,14 +51,14 @@ pub record BreaksAnswerOff {T : Type 0} (view : T → View) (does : T → ℕ �
   pub breaks : IsBroken before now piece e
 
 pub record HasHeard {T : Type 0} (view : T → View) (does : T → ℕ → Doing → Type 0)
-    (moves : T → Motion → List Point → Stop → T → Type 0) (tells : T → List ℕ → List ℕ → T → Type 0)
+    (moves : T → Motion → List Point → Stop → T → Type 0) (tells : T → List ℕ → List ℕ → Option Stop → T → Type 0)
     (s : Standing T) (byte : ℕ) (x : Standing T) (before now : SinkState) : Type 0 where
   pub put : List ℕ
   pub hears : Hears view does moves tells s byte put x
   pub puts : HasPut before now put
 
 pub record BreaksOff {T : Type 0} (view : T → View) (does : T → ℕ → Doing → Type 0)
-    (moves : T → Motion → List Point → Stop → T → Type 0) (tells : T → List ℕ → List ℕ → T → Type 0)
+    (moves : T → Motion → List Point → Stop → T → Type 0) (tells : T → List ℕ → List ℕ → Option Stop → T → Type 0)
     (s : Standing T) (byte : ℕ) (before now : SinkState) (e : ServeError) : Type 0 where
   pub piece : List ℕ
   pub begins : IsBeginning view does moves tells s byte piece

@@ -32,7 +32,7 @@ opening t = record {
 abbrev pub event_of : Server → (byte : ℕ) → Option PacketEvent
 event_of s byte = (step s.reading byte).event
 
--- the server behind a byte, before a request is answered
+-- the server after a byte, before a request is answered
 abbrev pub heard_by : Server → (byte : ℕ) → Server
 heard_by s byte = record {
   reading = (step s.reading byte).reading;
@@ -46,7 +46,7 @@ put_at_once s byte = put_for s.session s.last (event_of s byte)
 
 -- the request that was read last is answered by this packet
 pub record IsAnswered {T : Type 0} (view : T → View) (does : T → ℕ → Doing → Type 0)
-    (moves : T → Motion → List Point → Stop → T → Type 0) (tells : T → List ℕ → List ℕ → T → Type 0)
+    (moves : T → Motion → List Point → Stop → T → Type 0) (tells : T → List ℕ → List ℕ → Option Stop → T → Type 0)
     (s : Server) (t : T) (packet : List ℕ) (x : Standing T) : Type 0 where
   pub answer : List ℕ
   pub answers : AnswersRequest view does moves tells
@@ -65,7 +65,7 @@ pub record IsAnswered {T : Type 0} (view : T → View) (does : T → ℕ → Doi
 
 -- the packet of an answer, if a request was read
 abbrev pub IsAnsweredIf : {T : Type 0} → (T → View) → (T → ℕ → Doing → Type 0)
-    → (T → Motion → List Point → Stop → T → Type 0) → (T → List ℕ → List ℕ → T → Type 0)
+    → (T → Motion → List Point → Stop → T → Type 0) → (T → List ℕ → List ℕ → Option Stop → T → Type 0)
     → Bool → Server → T → (packet : List ℕ) → Standing T → Type 0
 IsAnsweredIf view does moves tells true s t packet x = IsAnswered view does moves tells s t packet x
 IsAnsweredIf view does moves tells false s t packet x =
@@ -73,7 +73,7 @@ IsAnsweredIf view does moves tells false s t packet x =
 
 -- a byte comes while the debugger stays: what is put at once, and the packet of the answer
 pub record Hears {T : Type 0} (view : T → View) (does : T → ℕ → Doing → Type 0)
-    (moves : T → Motion → List Point → Stop → T → Type 0) (tells : T → List ℕ → List ℕ → T → Type 0)
+    (moves : T → Motion → List Point → Stop → T → Type 0) (tells : T → List ℕ → List ℕ → Option Stop → T → Type 0)
     (s : Standing T) (byte : ℕ) (put : List ℕ) (x : Standing T) : Type 0 where
   pub packet : List ℕ
   pub stays : s.after ≡ GoesOn
@@ -83,7 +83,7 @@ pub record Hears {T : Type 0} (view : T → View) (does : T → ℕ → Doing �
 
 -- A transcript: this is put for these bytes, from one standing to another.
 abbrev pub Serves : {T : Type 0} → (T → View) → (T → ℕ → Doing → Type 0)
-    → (T → Motion → List Point → Stop → T → Type 0) → (T → List ℕ → List ℕ → T → Type 0)
+    → (T → Motion → List Point → Stop → T → Type 0) → (T → List ℕ → List ℕ → Option Stop → T → Type 0)
     → Standing T → (heard put : List ℕ) → Standing T → Type 0
 Serves view does moves tells s [] put x = (put ≡ []) × (x ≡ s)
 Serves view does moves tells s (byte ∷ bytes) put x =

@@ -13,7 +13,7 @@ use gdb_session::{After, Server, Target};
 use std::alloc::{AllocError, Global};
 
 /// How serving a debugger ends.
-#[derive(Clone, Copy, Debug, PartialEq, Eq)]
+#[derive(Clone, Copy, PartialEq, Eq)]
 pub enum ServeEnd {
     /// No more bytes come, or 2^64 - 1 did.
     InputEnds,
@@ -24,7 +24,7 @@ pub enum ServeEnd {
 }
 
 /// Why a debugger is served no further.
-#[derive(Debug, Drop)]
+#[derive(Drop)]
 pub enum ServeError {
     /// The input could not be read.
     Input,

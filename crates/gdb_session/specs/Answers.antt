@@ -13,7 +13,7 @@ use Rattle.gdb_session.specs.declared.target.MotionReach.{MotionReach}
 use Rattle.gdb_session.specs.declared.target.Stop.{Stop}
 use Rattle.gdb_remote.specs.Hexadecimal.{bytes_digits, bytes_of}
 use Rattle.gdb_session.specs.Views.{View}
-use Rattle.gdb_session.specs.Sessions.{Session, refused, read_only, done, doing_text, look_text, setting_text, after_setting, processor_among, reach_among, stopped, stop_text, told_text}
+use Rattle.gdb_session.specs.Sessions.{Session, refused, read_only, done, doing_text, look_text, setting_text, after_setting, processor_among, reach_among, moved, stopped, stop_text, told_text}
 
 -- a session and a run, before a request and after it, and the answer
 pub record Exchange (T : Type 0) : Type 0 where
@@ -49,16 +49,20 @@ abbrev pub Goes : {T : Type 0} → (T → View) → (T → Motion → List Point
     → Exchange T → Direction → Extent → Type 0
 Goes view moves x d e = GoesSo moves x d (reach_among x.session (view x.target).processors e)
 
--- a command is done, and told of, if its bytes can be read
-abbrev pub Tells : {T : Type 0} → (T → List ℕ → List ℕ → T → Type 0) → T → Option (List ℕ) → T
-    → List ℕ → Type 0
-Tells tells t None t' answer = (answer ≡ refused) × (t' ≡ t)
-Tells tells t (Some command) t' answer =
-    (told : List ℕ) × tells t command told t' × (answer ≡ told_text told)
+-- a command is done, and told of, if its bytes can be read; and where it moved the run, the session
+-- has where that stands
+abbrev pub Tells : {T : Type 0} → (T → List ℕ → List ℕ → Option Stop → T → Type 0) → Exchange T
+    → Option (List ℕ) → Type 0
+Tells tells x None = Stands x x.session refused
+Tells tells x (Some command) =
+    (told : List ℕ) × (stop : Option Stop) × tells x.target command told stop x.target_after
+    × (x.session_after ≡ moved x.session stop)
+    × (x.answer ≡ told_text told)
 
 -- a request whose packet has this body is answered
 abbrev pub AnswersRequest : {T : Type 0} → (T → View) → (T → ℕ → Doing → Type 0)
-    → (T → Motion → List Point → Stop → T → Type 0) → (T → List ℕ → List ℕ → T → Type 0)
+    → (T → Motion → List Point → Stop → T → Type 0)
+    → (T → List ℕ → List ℕ → Option Stop → T → Type 0)
     → Exchange T → List ℕ → DebuggerRequest → Type 0
 AnswersRequest view does moves tells x body (Look l) =
     Stands x x.session (look_text x.session (view x.target) l)
@@ -69,9 +73,7 @@ AnswersRequest view does moves tells x body (Set s) =
     Stands x (after_setting x.session (view x.target).processors s)
     (setting_text x.session (view x.target).processors s)
 AnswersRequest view does moves tells x body (Go d e) = Goes view moves x d e
-AnswersRequest view does moves tells x body Monitor =
-    Tells tells x.target (bytes_of (drop 6 body)) x.target_after x.answer
-    × (x.session_after ≡ x.session)
+AnswersRequest view does moves tells x body Monitor = Tells tells x (bytes_of (drop 6 body))
 AnswersRequest view does moves tells x body Detach = Stands x x.session done
 AnswersRequest view does moves tells x body Kill = Stands x x.session []
 AnswersRequest view does moves tells x body Write = Stands x x.session read_only

@@ -14,7 +14,7 @@ use Rattle.gdb_remote.specs.declared.request.Look.TheVariants.{Status, Registers
 use Rattle.gdb_remote.specs.declared.request.SessionSetting.{SessionSetting}
 use Rattle.gdb_remote.specs.declared.request.SessionSetting.TheVariants.{Choose, ChooseToMove, SetPoint, ClearPoint, NoAcknowledgements}
 use Rattle.gdb_session.specs.declared.target.Doing.{Doing}
-use Rattle.gdb_session.specs.declared.target.Doing.TheVariants.{Runs, Exited, Waits}
+use Rattle.gdb_session.specs.declared.target.Doing.TheVariants.{Runs, Exited, Stopped, Waits}
 use Rattle.gdb_session.specs.declared.target.MotionReach.{MotionReach}
 use Rattle.gdb_session.specs.declared.target.MotionReach.TheVariants as reach
 use Rattle.gdb_session.specs.declared.target.Stop.{Stop}
@@ -100,7 +100,7 @@ memory_text v p a n =
     if n == 0 || not (is_some (byte_at v p a)) then unmapped
     else bytes_digits (mapped_front v p a n)
 
--- a piece of a text: behind an `m` where more follows, and else behind an `l`
+-- a piece of a text: after an `m` where more follows, and else after an `l`
 abbrev pub piece : (offset length : ℕ) → List ℕ → List ℕ
 piece offset n text =
     if nat_lt n (length (drop offset text)) then 109 ∷ take n (drop offset text)
@@ -116,8 +116,9 @@ threads_below (suc p) = threads_below p ++ separator p ∷ thread_digits p
 
 -- what a processor does, in words
 abbrev pub doing_text : Doing → List ℕ
-doing_text Runs = codes "stopped"
+doing_text Runs = codes "runs"
 doing_text Exited = codes "exited"
+doing_text Stopped = codes "stopped by the budget"
 doing_text (Waits block) = codes "waits for block " ++ decimal block
 
 -- the processor of a thread, if there is such a one
@@ -132,7 +133,7 @@ alive_text v All = refused
 alive_text v Any = refused
 alive_text v (Of p) = if nat_lt p v.processors then done else refused
 
--- why a run stopped, behind the number of the thread
+-- why a run stopped, after the number of the thread
 abbrev pub why_text : Why → List ℕ
 why_text why.Stepped = []
 why_text (why.Point kind.Software a) = codes "swbreak:;"
@@ -262,6 +263,11 @@ reach_among s n (extent.Step t) = step_of n (processor_or s.general (moving_of s
 -- the session where the run stopped so
 abbrev pub stopped : Session → Stop → Session
 stopped s stop = record s { general = stop.processor; stop = stop }
+
+-- the session where a command moved the run, if it did
+abbrev pub moved : Session → Option Stop → Session
+moved s None = s
+moved s (Some stop) = record s { stop = stop }
 
 -- what a command told
 abbrev pub told_text : List ℕ → List ℕ

@@ -70,7 +70,7 @@ pub(crate) fn push_description(
     push_piece(out, &text, offset, length)
 }
 
-/// Appends a piece of a text: behind an `m` where more follows, and else behind an `l`.
+/// Appends a piece of a text: after an `m` where more follows, and else after an `l`.
 #[tactic(auto, using(crate::proofs::Steps::piece_end))]
 fn push_piece(out: &mut Vec<u8>, text: &[u8], offset: u64, length: u64) -> Result<(), AllocError>
     ensures { OnOk result (out.new.items ≡ out.old.items ++ piece offset length text.now) }

@@ -24,7 +24,7 @@ const MOST_POINTS: usize = 64;
 const COMMAND: usize = 6;
 
 /// Whether the debugger stays.
-#[derive(Clone, Copy, Debug)]
+#[derive(Clone, Copy)]
 pub enum After {
     GoesOn,
     /// It leaves with the answer.
@@ -148,7 +148,7 @@ impl Session {
                 Ok(After::GoesOn)
             }
             DebuggerRequest::Monitor => {
-                command(alloc, target, body, out)?;
+                self.command(alloc, target, body, out)?;
                 Ok(After::GoesOn)
             }
             DebuggerRequest::Detach => {
@@ -296,6 +296,56 @@ impl Session {
         push_stop(out, stop)
     }
 
+    /// Does the command of a packet's body.
+    fn command<T: Target>(
+        &mut self,
+        alloc: Global,
+        target: &mut T,
+        body: &[u8],
+        out: &mut Vec<u8>,
+    ) -> Result<(), AllocError>
+        requires empty { out.old.items ≡ [] }
+        ensures { OnOk result (Tells T.tells
+            (record {
+              session = self.old;
+              target = target.old;
+              session_after = self.new;
+              target_after = target.new;
+              answer = out.new.items;
+            }) (bytes_of (drop 6 body.now))) }
+    {
+        let command = bytes_of(alloc, behind_word(body))?;
+        self.do_command(alloc, target, command, out)
+    }
+
+    /// Does a command, if its bytes could be read. It may move the run.
+    fn do_command<T: Target>(
+        &mut self,
+        alloc: Global,
+        target: &mut T,
+        command: Option<Vec<u8>>,
+        out: &mut Vec<u8>,
+    ) -> Result<(), AllocError>
+        requires empty { out.old.items ≡ [] }
+        ensures { OnOk result (Tells T.tells
+            (record {
+              session = self.old;
+              target = target.old;
+              session_after = self.new;
+              target_after = target.new;
+              answer = out.new.items;
+            }) (option_map (λ v. v.items) command)) }
+    {
+        let Some(command) = command else {
+            return out.extend_from_slice(b"E01");
+        };
+        let told = target.command(alloc, &command)?;
+        if let Some(stop) = told.stop {
+            self.stop = stop;
+        }
+        push_told(out, &told.text)
+    }
+
     /// How far a run goes, if the processor that steps is one that there is.
     fn reach_of(&self, processors: u16, extent: Extent) -> Option<MotionReach>
         ensures { result ≡ model.reach_among self.now processors extent }
@@ -357,39 +407,6 @@ fn tell_doing<T: Target>(
     let mut text = Vec::new(alloc);
     push_doing(&mut text, doing)?;
     push_bytes(out, &text)
-}
-
-/// Does the command of a packet's body.
-fn command<T: Target>(
-    alloc: Global,
-    target: &mut T,
-    body: &[u8],
-    out: &mut Vec<u8>,
-) -> Result<(), AllocError>
-    requires empty { out.old.items ≡ [] }
-    ensures { OnOk result (Tells T.tells target.old (bytes_of (drop 6 body.now)) target.new
-        out.new.items) }
-{
-    let command = bytes_of(alloc, behind_word(body))?;
-    do_command(alloc, target, command, out)
-}
-
-/// Does a command, if its bytes could be read.
-fn do_command<T: Target>(
-    alloc: Global,
-    target: &mut T,
-    command: Option<Vec<u8>>,
-    out: &mut Vec<u8>,
-) -> Result<(), AllocError>
-    requires empty { out.old.items ≡ [] }
-    ensures { OnOk result (Tells T.tells target.old (option_map (λ v. v.items) command) target.new
-        out.new.items) }
-{
-    let Some(command) = command else {
-        return out.extend_from_slice(b"E01");
-    };
-    let told = target.command(alloc, &command)?;
-    push_told(out, &told)
 }
 
 /// The digits of a command.

@@ -1,6 +1,6 @@
 //! What a session is about: a run of processors, seen from where it stands.
 
-ghost use Rattle.std.specs.Prelude.{◌≡◌, ◌<◌, ℕ, List, IfOk, OnOk};
+ghost use Rattle.std.specs.Prelude.{◌≡◌, ◌<◌, ℕ, List, Option, IfOk, OnOk};
 ghost use Rattle.gdb_session.specs.Views.{View};
 ghost use Rattle.gdb_remote.specs.declared.request.Point.{Point as Points};
 ghost use Rattle.gdb_session.specs.declared.target.Doing.{Doing as Doings};
@@ -14,16 +14,20 @@ use std::alloc::{AllocError, Global};
 pub const PC: u32 = 32;
 
 /// What a processor does where the run stands.
-#[derive(Clone, Copy, Debug)]
+#[derive(Clone, Copy)]
 pub enum Doing {
+    /// It may execute an instruction.
     Runs,
+    /// It ended by itself.
     Exited,
+    /// Its budget is used up.
+    Stopped,
     /// It waits for a block of memory.
     Waits { block: u32 },
 }
 
 /// How far a run goes.
-#[derive(Clone, Copy, Debug)]
+#[derive(Clone, Copy)]
 pub enum MotionReach {
     /// To a point, or to the end of the run.
     Run,
@@ -35,14 +39,14 @@ pub enum MotionReach {
 }
 
 /// How a run goes on.
-#[derive(Clone, Copy, Debug)]
+#[derive(Clone, Copy)]
 pub struct Motion {
     pub direction: Direction,
     pub reach: MotionReach,
 }
 
 /// Why a run stopped.
-#[derive(Clone, Copy, Debug)]
+#[derive(Clone, Copy)]
 pub enum Why {
     /// It went as far as it was to go.
     Stepped,
@@ -57,10 +61,18 @@ pub enum Why {
 }
 
 /// Where a run stopped: at which processor, and why.
-#[derive(Clone, Copy, Debug)]
+#[derive(Clone, Copy)]
 pub struct Stop {
     pub processor: u16,
     pub why: Why,
+}
+
+/// What a command tells.
+#[derive(Drop)]
+pub struct Told {
+    pub text: Vec<u8>,
+    /// Where the run stands then, if the command moved it.
+    pub stop: Option<Stop>,
 }
 
 /// A run of processors, which can be looked at, and goes forwards and backwards.
@@ -75,8 +87,9 @@ pub trait Target {
     /// there so.
     ghost moves: { Self → Motions → List Points → Stops → Self → Type 0 };
 
-    /// Whether a command tells this text, and leaves the run so.
-    ghost tells: { Self → List ℕ → List ℕ → Self → Type 0 };
+    /// Whether a command tells this text, and where the run stands then, if it moved the run; and
+    /// leaves the run so.
+    ghost tells: { Self → List ℕ → List ℕ → Option Stops → Self → Type 0 };
 
     /// The number of processors.
     fn processors(&self) -> u16
@@ -104,6 +117,7 @@ pub trait Target {
         ensures { IfOk result (λ stop. moves self.old motion points.now stop self.new) };
 
     /// Does a command, and tells what comes of it.
-    fn command(&mut self, alloc: Global, text: &[u8]) -> Result<Vec<u8>, AllocError>
-        ensures { IfOk result (λ told. tells self.old text.now told.items self.new) };
+    fn command(&mut self, alloc: Global, text: &[u8]) -> Result<Told, AllocError>
+        ensures { IfOk result
+            (λ told. tells self.old text.now told.text.items told.stop self.new) };
 }

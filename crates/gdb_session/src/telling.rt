@@ -43,13 +43,14 @@ pub(crate) fn push_doing(out: &mut Vec<u8>, doing: Doing) -> Result<(), AllocErr
     ensures { OnOk result (out.new.items ≡ out.old.items ++ doing_text doing) }
 {
     match doing {
-        Doing::Runs => out.extend_from_slice(b"stopped"),
+        Doing::Runs => out.extend_from_slice(b"runs"),
         Doing::Exited => out.extend_from_slice(b"exited"),
+        Doing::Stopped => out.extend_from_slice(b"stopped by the budget"),
         Doing::Waits { block } => push_named(out, b"waits for block ", block),
     }
 }
 
-/// Appends a number in decimal digits behind a name.
+/// Appends a number in decimal digits after a name.
 pub(crate) fn push_named(out: &mut Vec<u8>, name: &[u8], number: u32) -> Result<(), AllocError>
     ensures { OnOk result (out.new.items ≡ out.old.items ++ (name.now ++ decimal number)) }
 {

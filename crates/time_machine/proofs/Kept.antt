@@ -38,9 +38,6 @@ one_pushed r each c are one = λ k x is. elim (cases_lt k (length each)) [
   ]
 ]
 
-pub none_kept : (r : Run) → AreOfRun r []
-none_kept r = λ j c is. absurd (cc)
-
 -- what is left was there
 was_there : {X : Type 0} (xs : List X) (i j : ℕ) (x : X) → slice_get (take i xs ++ drop (suc i) xs) j ≡ Some x → (k : ℕ) × (slice_get xs k ≡ Some x)
 was_there [] zero j x is = absurd (cc)

@@ -1,6 +1,6 @@
 -- What a step touches, by the demand of its instruction.
-use Rattle.std.proofs.Common.{◌≡◌, ℕ, ◌%◌, Bool, true, false, Option, Some, None, refl, sym, ap, ◌∙◌, subst, arith}
-use Rattle.std.specs.Prelude.{if◌then◌else◌, ◌&&◌, ◌==◌}
+use Rattle.std.proofs.Common.{◌≡◌, ℕ, Bool, true, false, Option, Some, None, refl, sym, ap, ◌∙◌, subst, arith}
+use Rattle.std.specs.Prelude.{if◌then◌else◌, ◌&&◌}
 use Rattle.std.proofs.lemmas.Bool.Decides.{nat_tests}
 use Rattle.elf32_read.specs.Elf.{Elf}
 use Rattle.exec_map.specs.Contents.{program_of}
@@ -16,7 +16,7 @@ use Rattle.rv32_program.specs.declared.Exit.TheVariants.{Access, Misaligned}
 use Rattle.rv32_step.specs.declared.CallStep.{CallStep}
 use Rattle.rv32_step.specs.declared.CallStep.TheVariants.{Ends, Returns, Puts}
 use Rattle.rv32_step.specs.declared.Demand.{Demand}
-use Rattle.rv32_step.specs.declared.Demand.TheVariants.{Jumps, Branches, Loads, Stores, Calls, Reserves, StoresIf, Updates}
+use Rattle.rv32_step.specs.declared.Demand.TheVariants.{Loads, Stores, Calls, Reserves, StoresIf, Updates}
 use Rattle.rv32_decode.specs.declared.Instr.{Instr}
 use Rattle.rv32_step.specs.Demands.{call_step, cut_short, demand_of}
 use Rattle.rv32_step.specs.OneMemory.{Original, Processor, State, WritesIf, Request, Becomes, Prints, access_by, after_call, exit_of_access, request_at, request_by, request_for, request_of_call, request_unless, step}
@@ -131,16 +131,6 @@ module _ (o : Original) (s : State) (p : ℕ) (e : Elf) (runs : o.program ≡ pr
 
   pub returns : (d : Demand) (call : CallStep) {value : ℕ} → IsCall d call → call ≡ Returns value → None ≡ touch_met o s p d
   returns d call is made = ap of_call (sym made) ∙ called d call is
-
-  goes : (d : Demand) (b : Bool) (x : Exit) → of_request (request_by o.program (s.processors p) d) ≡ None → of_request (request_unless o.program (s.processors p) d (if b then None else Some x)) ≡ None
-  goes d true x is = is
-  goes d false x is = refl
-
-  pub jumps : (r target : ℕ) → None ≡ touch_met o s p (Jumps r target)
-  jumps r target = sym (goes (Jumps r target) (target % 4 == 0) (Misaligned (s.processors p).pc) refl)
-
-  pub branches : (target : ℕ) → None ≡ touch_met o s p (Branches target)
-  branches target = sym (goes (Branches target) (target % 4 == 0) (Misaligned (s.processors p).pc) refl)
 
   abbrev of_code : Option Instr → Option TouchedBytes
   of_code i = of_request (request_at o.program (s.processors p) i)

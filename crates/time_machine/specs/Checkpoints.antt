@@ -16,12 +16,12 @@ IsOfRun r c = IsAt r c.position c.machine
 abbrev pub AreOfRun : Run → List Checkpoint → Type 0
 AreOfRun r each = (j : ℕ) (c : Checkpoint) → slice_get each j ≡ Some c → IsOfRun r c
 
--- each from a place on lies behind a position
+-- each from a place on lies after a position
 abbrev pub AreBehind : List Checkpoint → (from position : ℕ) → Type 0
 AreBehind each from position =
     (j : ℕ) (c : Checkpoint) → from ≤ j → slice_get each j ≡ Some c → position < c.position
 
--- the last one that doesn't lie behind a position
+-- the last one that doesn't lie after a position
 pub record IsNearest (each : List Checkpoint) (position : ℕ) (c : Checkpoint) : Type 0 where
   pub place : ℕ
   pub there : slice_get each place ≡ Some c

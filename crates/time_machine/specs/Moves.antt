@@ -4,7 +4,7 @@ use Rattle.time_machine.specs.declared.stops.StopPoint.{StopPoint}
 use Rattle.time_machine.specs.Stand.{Run}
 use Rattle.time_machine.specs.Stops.{hit_at, met_behind}
 
--- Forwards from one position, stop i is the first that is met: at another position, behind the last
+-- Forwards from one position, stop i is the first that is met: at another position, after the last
 -- pick that is made.
 pub record IsFirstMet (r : Run) (stops : List StopPoint) (from to i position : ℕ) : Type 0 where
   pub last : ℕ

@@ -72,13 +72,13 @@ abbrev pub came_by : Original → State → Pick → Option ℕ
 came_by original s (Step p) = (next_step original s p).start
 came_by original s (Break p q) = None
 
--- where the processor of pick k stands behind it
+-- where the processor of pick k stands after it
 abbrev pub came_at : Run → (k : ℕ) → Option ℕ
 came_at r k =
     option_and_then (came_by (original_in r) (state_at r (k + 1))) (slice_get (picks_in r) k)
 
 -- Between a step that was made and the next: an address is met before a step that begins there, an
--- address of one processor as soon as this has come there, and all else behind the step that hits
+-- address of one processor as soon as this has come there, and all else after the step that hits
 -- it.
 abbrev pub is_met : (made next : Option NextStep) → (came : Option ℕ) → StopPoint → Bool
 is_met made next came (At a) = is_hit next (At a)
@@ -92,7 +92,7 @@ is_met made next came (WatchOf p w) = is_hit made (WatchOf p w)
 abbrev pub hit_at : Run → List StopPoint → (k : ℕ) → Option ℕ
 hit_at r stops k = position (is_hit (step_at r k)) stops
 
--- the first of the stops that is met behind pick k
+-- the first of the stops that is met after pick k
 abbrev pub met_behind : Run → List StopPoint → (k : ℕ) → Option ℕ
 met_behind r stops k =
     position (is_met (step_at r k) (step_at r (k + 1)) (came_at r k)) stops

@@ -54,7 +54,7 @@ pub(crate) fn bytes_of_copy(
     program: &Program<'_>,
     nodes: NodeCount,
 ) -> Result<u64, AllocError> {
-    let mut bytes = PROCESSOR_BYTES * u64::from(nodes.number());
+    let mut bytes = PROCESSOR_BYTES * nodes.number();
     for shared in program.shared_ranges(alloc)?.as_slice() {
         bytes = bytes.saturating_add(u64::from(LINE_BYTES) * u64::from(shared.lines));
     }
@@ -93,8 +93,7 @@ impl<'a> Model for Checkpoints<'a> {
 }
 
 impl<'a> Checkpoints<'a> {
-    /// None yet. There may be as many as so many megabytes have room for, where one takes so many
-    /// bytes.
+    /// None yet. There may be as many as fit into `megabytes`, where one takes `bytes` bytes.
     pub fn new(alloc: Global, megabytes: u32, bytes: u64) -> Checkpoints<'a>
         ensures { result ≡ [] }
     {
@@ -108,7 +107,7 @@ impl<'a> Checkpoints<'a> {
         }
     }
 
-    /// The last one that doesn't lie behind a position.
+    /// The last one that doesn't lie after a position.
     pub fn nearest(&self, position: usize) -> Option<&Checkpoint<'a>>
         ensures { MatchOption result (AreBehind self.now 0 position)
             (λ c. IsNearest self.now position c.now) }

@@ -1,5 +1,7 @@
 #![tactic(auto)]
 //! A run on one memory that is gone through pick by pick, forwards and backwards.
+//!
+//! It hands on [`one_memory`], on which it runs the original.
 
 mod checkpoints;
 mod machine;

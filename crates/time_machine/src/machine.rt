@@ -48,8 +48,8 @@ impl<'a> Model for TimeMachine<'a> {
 }
 
 impl<'a> TimeMachine<'a> {
-    /// The run of these picks, at its start. Of what it goes through it keeps copies of the
-    /// processors, in so many megabytes of 2^20 bytes.
+    /// The run of these picks, at its start. It keeps copies of the processors on its way, in at
+    /// most `megabytes` megabytes of 2^20 bytes.
     pub fn new(
         alloc: Global,
         program: &'a Program<'a>,
@@ -207,7 +207,7 @@ impl<'a> TimeMachine<'a> {
         }
     }
 
-    /// Makes the next pick, and says where its processor stands behind it, unless this goes on with
+    /// Makes the next pick, and says where its processor stands after it, unless this goes on with
     /// a call. Fails, with nothing changed, where there is no memory for a byte of output.
     fn advance(&mut self) -> Result<Option<u32>, AllocError>
         requires { self.old.position < length self.old.run.picks }

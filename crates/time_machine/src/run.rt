@@ -94,7 +94,7 @@ impl<'a> PickedRun<'a> {
         step_of(self.program, machine, pick)
     }
 
-    /// Where the processor of pick `k` stands behind it, unless it goes on with a call. None for a
+    /// Where the processor of pick `k` stands after it, unless it goes on with a call. None for a
     /// break.
     pub fn came(&self, machine: &OneMemory<'_>, k: usize) -> Option<u32>
         requires there { k < length self.now.picks }
@@ -126,8 +126,8 @@ impl<'a> PickedRun<'a> {
         }
     }
 
-    /// The last pick before a position that hits one of the stops. Looks behind the last checkpoint
-    /// first, then behind the one before it, and so on to the start.
+    /// The last pick before a position that hits one of the stops. Looks after the last checkpoint
+    /// first, then after the one before it, and so on to the start.
     pub fn last_hit(
         &self,
         alloc: Global,

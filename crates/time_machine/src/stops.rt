@@ -7,7 +7,7 @@ ghost use Rattle.time_machine.specs.Stops as model;
 use crate::step::{NextStep, TouchKind, TouchedBytes};
 
 /// What a run is to stop at.
-#[derive(Clone, Copy, Debug, PartialEq, Eq)]
+#[derive(Clone, Copy, PartialEq, Eq)]
 pub enum StopPoint {
     /// A step that begins at this address.
     At(u32),
@@ -22,8 +22,8 @@ pub enum StopPoint {
     WatchOf(u8, Watch),
 }
 
-/// So many bytes from an address on that are watched.
-#[derive(Clone, Copy, Debug, PartialEq, Eq)]
+/// Bytes from an address on that are watched.
+#[derive(Clone, Copy, PartialEq, Eq)]
 pub struct Watch {
     pub kind: WatchKind,
     pub address: u32,
@@ -31,7 +31,7 @@ pub struct Watch {
 }
 
 /// How bytes are watched. An exchange of a word reads and writes it.
-#[derive(Clone, Copy, Debug, PartialEq, Eq)]
+#[derive(Clone, Copy, PartialEq, Eq)]
 pub enum WatchKind {
     Write,
     Read,

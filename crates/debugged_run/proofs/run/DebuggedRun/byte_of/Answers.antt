@@ -11,7 +11,6 @@ returns c =
     let s = c.self.inside.machine in
     let p = c.args.p in
     let a = c.args.address in
-    rw (← c.self.view_is)
-    (c.byte.ensures
+    rw (← c.self.view_is) (c.byte.ensures
     ∙ ap (λ (o : Original). byte_shown o (state_of m) p a) c.machine.ensures.original
     ∙ ap (λ (t : State). byte_shown (original_in s.run) t p a) c.machine.ensures.state)
