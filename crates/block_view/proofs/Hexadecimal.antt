@@ -19,8 +19,7 @@ onto (suc k) n acc =
         ≡ cond t (d ∷ []) (digits_onto k 16 false (n / 16) (d ∷ [])) ++ acc
     by d true all own = refl
     by d false all own =
-        all
-        ∙ sym (append_assoc (digits_onto k 16 false (n / 16) []) (d ∷ []) acc)
+        all ∙ sym (append_assoc (digits_onto k 16 false (n / 16) []) (d ∷ []) acc)
         ∙ ap (λ x. x ++ acc) (sym own)
 
 -- digits to spare change nothing

@@ -94,8 +94,7 @@ module _ (work : Work) (plan : List PlanEntry) (has : HasBlocks work.layout) whe
   abbrev Known : Traced → Type 0
   Known x = IsOfBlocks (blocks work.layout) x.what
 
-  first_known : (n : Node) (k j stamp : ℕ) (wires : List Wire)
-      → All Known
+  first_known : (n : Node) (k j stamp : ℕ) (wires : List Wire) → All Known
       (option_to_list (option_map (λ w. record { stamp = stamp; node = k; what = w }) (first_traced work n j wires)))
   first_known n k j stamp [] = All-nil Known
   first_known n k j stamp (wire ∷ rest) =
@@ -106,8 +105,7 @@ module _ (work : Work) (plan : List PlanEntry) (has : HasBlocks work.layout) whe
   event_known c stamp (Exec k) =
       All-cons Known _ []
       (along work.layout has (each_block_once work.layout (wants_of (word_outcome work (c.nodes k)).move))
-      (after_word work (c.nodes k)))
-      (All-nil Known)
+      (after_word work (c.nodes k))) (All-nil Known)
   event_known c stamp (Take k j) = first_known (c.nodes k) k j stamp (c.list j k)
 
   pub run_known : (xs : List Stamped) (c : Core) → All Known (trace_from work plan c xs)

@@ -17,8 +17,7 @@ pub ordered : (xs ys : List Ranked) → IsPermutation xs ys → All (λ r. r.cos
     → IsNonDecreasingBy (λ r. 2 ^ 64 - 1 - r.cost) ys
     → ((k : ℕ) (d : Ranked) → k + 1 < length ys
     → 2 ^ 64 - 1 - (slice_index_or ys k d).cost ≡ 2 ^ 64 - 1 - (slice_index_or ys (k + 1) d).cost
-    → (slice_index_or ys k d).block ≤ (slice_index_or ys (k + 1) d).block)
-    → IsOrder xs ys
+    → (slice_index_or ys k d).block ≤ (slice_index_or ys (k + 1) d).block) → IsOrder xs ys
 ordered xs ys same fit rising ties = record {
   same = same;
   falling = λ k d within.

@@ -96,8 +96,7 @@ one_passed s seen x passed h =
       sharing = λ b d within. subst (AreWritersOf (slice_index_or s.sharing.blocks.items b d))
           (sym (writes_more b seen x
           ∙ ap (λ l. writes_of b seen ++ l) (passed_unwritten b x.node x.what passed)
-          ∙ append-nil (writes_of b seen)))
-          (h.sharing b d within);
+          ∙ append-nil (writes_of b seen))) (h.sharing b d within);
     }
 
 pub all_passed : (s : Sums) (seen more : List Traced) → AreSumsOf s seen → All (IsPassed until.Write) more

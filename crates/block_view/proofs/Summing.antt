@@ -12,7 +12,7 @@ use Rattle.state_table.specs.StateByte.{can_read}
 use Rattle.home_directory.specs.dsm_messages.declared.messages.Need.{Need}
 use Rattle.home_directory.specs.dsm_messages.declared.messages.Need.TheVariants as need
 use Rattle.node_model.specs.declared.NodeCounts.{NodeCounts}
-use Rattle.node_model.specs.Node.{Tally, Nothing_counted, FalseMiss, FallsBack, no_counts, counts_after}
+use Rattle.node_model.specs.Node.{Tally, Nothing_counted, no_counts, counts_after}
 use Rattle.node_model.specs.Turns.{count_want, count_row}
 use Rattle.event_text.specs.node_machine.declared.wanted.Wanted.{Wanted}
 use Rattle.event_text.specs.run_trace.Traced.{OfTake, Traced, What, Word, Taken}
@@ -79,8 +79,7 @@ adds_none : (number : NodeCounts → ℕ) → Adds number (λ c. c)
 adds_none number = record { more = 0; is = λ c. sym (add-zero (number c)) }
 
 module _ (number : NodeCounts → ℕ) (s : Steady number) where
-  of_write : (t : Bool)
-      → Adds number
+  of_write : (t : Bool) → Adds number
       (λ c. cond t (record c { upgrade = c.upgrade + 1; messages = c.messages + 1 })
       (record c { exclusive = c.exclusive + 1; messages = c.messages + 1 }))
   of_write true = record { more = s.upgrade; is = s.upgrades }
@@ -121,8 +120,7 @@ module _ (number : NodeCounts → ℕ) (s : Steady number) (m : ℕ) where
       → (of : ℕ → NodeCounts) (all : NodeCounts) → Sum of all → Sum (λ b. cond (t b) (f (of b)) (of b)) (f all)
   nowhere f none t of all sum =
       same_from (λ b. number (of b)) (λ b. number (cond (t b) (f (of b)) (of b))) m 0
-      (λ b low. either f none (t b) (of b))
-      ∙ sum ∙ sym (none all)
+      (λ b low. either f none (t b) (of b)) ∙ sum ∙ sym (none all)
 
   in_block : (f : NodeCounts → NodeCounts) → Adds number f → (o : Option ℕ) → is_below m o ≡ true
       → (of : ℕ → NodeCounts) (all : NodeCounts) → Sum of all → Sum (λ b. cond (is_block b o) (f (of b)) (of b)) (f all)
@@ -155,8 +153,7 @@ module _ (number : NodeCounts → ℕ) (s : Steady number) (m : ℕ) where
       (count_asked v all) next in
       same_from (λ b. number (count_wants (wants_of b vs) (cond (is_block b v.block) (count_asked v (of b)) (of b))))
       (λ b. number (count_wants (wants_of b (v ∷ vs)) (of b))) m 0
-      (λ b low. ap number (of_first (is_block b v.block) v (wants_of b vs) (of b)))
-      ∙ rest
+      (λ b low. ap number (of_first (is_block b v.block) v (wants_of b vs) (of b))) ∙ rest
 
   one_row : (t : OfTake) → IsOfBlocks m (Taken t) → (of : ℕ → NodeCounts) (all : NodeCounts) → Sum of all
       → Sum (λ b. count_about b (Taken t) (of b)) (count_row t.gives_up (length t.sends) all)
@@ -220,9 +217,7 @@ record Same (c d : NodeCounts) : Type 0 where
 tally_same : (t : Tally) (c : NodeCounts) → Same (counts_after t c) c
 tally_same Nothing_counted c =
     record { read = refl; exclusive = refl; upgrade = refl; invalidations = refl; messages = refl }
-tally_same FalseMiss c =
-    record { read = refl; exclusive = refl; upgrade = refl; invalidations = refl; messages = refl }
-tally_same FallsBack c =
+tally_same other c =
     record { read = refl; exclusive = refl; upgrade = refl; invalidations = refl; messages = refl }
 
 invalidated : (g : Bool) (n : ℕ) (c : NodeCounts) → (count_row g n c).invalidations ≡ c.invalidations + cond g 1 0

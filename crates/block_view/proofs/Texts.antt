@@ -68,8 +68,7 @@ more_lines : (f : ℕ → List ℕ) (n a : ℕ)
 more_lines f zero a = append-nil (f a) ∙ ap f (omega arith)
 more_lines f (suc n) a =
     let count : suc n + 1 ≡ suc (n + 1) = omega arith in
-    ap (λ k. flat_map f (range_with_len a k)) count
-    ∙ ap (λ x. f a ++ x) (more_lines f n (a + 1))
+    ap (λ k. flat_map f (range_with_len a k)) count ∙ ap (λ x. f a ++ x) (more_lines f n (a + 1))
     ∙ sym (append_assoc (f a) (flat_map f (range_with_len (a + 1) n)) (f (a + 1 + n)))
     ∙ ap (λ k. (f a ++ flat_map f (range_with_len (a + 1) n)) ++ f k) (omega arith)
 

@@ -190,8 +190,7 @@ any_of : (p : Write → Bool) (ws : List Write) (i a : ℕ) → Writes ws i a �
 any_of p [] i a h is = absurd h
 any_of p (w ∷ ws) i a (inl here) is =
     ap (λ b. b || list_any p ws) ((λ t. p (record { node = here.0 t; word = here.1 t })) ∙ is)
-any_of p (w ∷ ws) i a (inr there) is =
-    ap (λ b. p w || b) (any_of p ws i a there is) ∙ either (p w)
+any_of p (w ∷ ws) i a (inr there) is = ap (λ b. p w || b) (any_of p ws i a there is) ∙ either (p w)
   where
     either : (b : Bool) → (b || true) ≡ true
     either true = refl
@@ -265,8 +264,7 @@ apart_as s false ws is h =
 -- it is kept whether the block is falsely shared
 pub says_as : (s : Writers) (ws : List Write) → AreWritersOf s ws
     → says_shared s ≡ (are_of_several ws && are_apart ws)
-says_as s ws h =
-    λ t. several_as s.who ws h.who t && apart_as s.words s.words.meet ws refl h.words t
+says_as s ws h = λ t. several_as s.who ws h.who t && apart_as s.words s.words.meet ws refl h.words t
 
 -- 5. Blocks
 

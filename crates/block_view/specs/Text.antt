@@ -58,7 +58,7 @@ node_line i c = if nat_lt 0 c.messages
 abbrev pub node_lines : (ℕ → NodeCounts) → (nodes : ℕ) → List ℕ
 node_lines counts n = flat_map (λ i. node_line i (counts i)) (range_with_len 0 n)
 
--- a function, and how far behind its first byte an address is
+-- a function, and how far after its first byte an address is
 abbrev pub function_text : (address : ℕ) → Option Symbol → List ℕ
 function_text a None = []
 function_text a (Some s) =

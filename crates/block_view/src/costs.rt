@@ -59,7 +59,8 @@ impl BlockCosts {
     }
 
     #[tactic(auto, using(crate::proofs::Costing::one_node_more))]
-    /// How many messages so many nodes have sent about the block. Fails where that has no room.
+    /// How many messages the first `nodes` nodes have sent about the block. Fails where that has no
+    /// room.
     pub(crate) fn cost(&self, nodes: u8) -> Result<u64, AllocError>
         ensures { (counts : ℕ → OfNode) (places : List ℕ) → IsCostOf self.now counts places
             → IfOk result (λ n. n ≡ messages_in counts nodes) }
@@ -278,7 +279,7 @@ impl Costs {
     ghost use Rattle.std.specs.Prelude.{◌<◌};
 
     #[tactic(auto, using(crate::proofs::Costing::none_more))]
-    /// Of so many blocks that have cost nothing.
+    /// The costs of `blocks` blocks that have cost nothing.
     pub(crate) fn new(alloc: Global, blocks: u32) -> Result<Costs, AllocError>
         ensures count { IfOk result (λ s. length s.blocks.items ≡ blocks) }
         ensures none { IfOk result (λ s. AreCostsOf s.blocks.items (λ b i. no_counts) (λ b. [])) }

@@ -1,5 +1,7 @@
 #![tactic(auto)]
 //! What each block of the shared memory costs in a recorded run.
+//!
+//! It hands on [`event_text`], by which it names what it tells.
 
 mod costs;
 mod law;

@@ -181,7 +181,7 @@ fn push_counts(counts: &NodeCounts, out: &mut Vec<u8>) -> Result<(), AllocError>
     Ok(())
 }
 
-/// Appends a number behind a name.
+/// Appends a number after a name.
 fn push_count(out: &mut Vec<u8>, name: &[u8], count: u64) -> Result<(), AllocError>
     ensures { OnOk result (out.new.items ≡ out.old.items ++ (name.now ++ decimal count)) }
 {

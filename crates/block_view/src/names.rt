@@ -8,7 +8,7 @@ ghost use Rattle.block_view.specs.Text as model;
 use elf_symbols::{Symbols, push_shown};
 use std::alloc::AllocError;
 
-/// Appends the function that has the byte at an address, if there is one, and how far behind its
+/// Appends the function that has the byte at an address, if there is one, and how far after its
 /// first byte the address is.
 pub(crate) fn push_function(
     out: &mut Vec<u8>,

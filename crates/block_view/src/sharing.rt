@@ -144,7 +144,7 @@ impl Sharing {
     ghost use Rattle.block_view.specs.Sharing.{Write};
     ghost use Rattle.block_view.specs.Writers.{AreSharedBy, writes_by, writes_with, shared_in};
 
-    /// Of so many blocks that nobody has written.
+    /// The sharing of `blocks` blocks that nobody has written.
     pub(crate) fn new(alloc: Global, blocks: u32) -> Result<Sharing, AllocError>
         ensures count { IfOk result (λ s. length s.blocks.items ≡ blocks) }
         ensures none { IfOk result (λ s. AreSharedBy s.blocks.items (λ b. [])) }

@@ -18,7 +18,7 @@ impl Totals {
     ghost use Rattle.event_text.specs.run_trace.Given.{traced_of};
     ghost use Rattle.block_view.specs.Kept.{AreTotals, total_by};
 
-    /// Of so many nodes that have counted nothing.
+    /// The totals of `nodes` nodes that have counted nothing.
     pub(crate) fn new(alloc: Global, nodes: u8) -> Result<Totals, AllocError>
         ensures { IfOk result (λ s. AreTotals nodes s.nodes.items (λ i. no_counts)) }
     {

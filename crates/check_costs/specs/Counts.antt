@@ -69,7 +69,7 @@ total counts = fold plus (counts_by 0 []) counts
 -- 2. The counts of functions
 
 -- the function that has the byte at an address, by its number in the table; of none it is the number
--- behind the last
+-- after the last
 abbrev pub function_of : List Symbol → (address : ℕ) → ℕ
 function_of symbols a =
     position_or_len (λ s. covers a s && begins_last symbols a s) symbols

@@ -15,7 +15,7 @@ use Rattle.check_costs.specs.Counts.{counts_in}
 use Rattle.check_costs.specs.declared.tally.Tally.{Tally}
 use Rattle.check_costs.specs.Tally.{Executed, tally_of}
 
--- an access behind so many words of its check
+-- an access after so many words of its check
 abbrev pub access_kinds : Template → Scratches → (words : ℕ) → List WordKind
 access_kinds t x words =
     replicate (spilled_count x) Spill

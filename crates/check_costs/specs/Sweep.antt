@@ -25,7 +25,7 @@ Rises [] = Unit {0}
 Rises (f ∷ []) = Unit {0}
 Rises (f ∷ (g ∷ gs)) = IsUpTo f g × Rises (g ∷ gs)
 
--- the function of the table that has so many behind it
+-- the function of the table that has so many after it
 pub record IsOf (symbols : List Symbol) (f : Function) : Type 0 where
   pub within : f.later < length symbols
   pub begin : (d : Symbol)
@@ -50,19 +50,19 @@ pub record HasCome (symbols : List Symbol) (address : ℕ) (f : Functions) : Typ
       → last_at a (f.running.items ++ drop f.begun f.sorted.items) ≡ last_at a f.sorted.items
   pub begun : All (λ g. g.begin ≤ address) f.running.items
 
--- those to come begin behind it
+-- those to come begin after it
 pub record HasBegun (symbols : List Symbol) (address : ℕ) (f : Functions) : Type 0 where
   pub come : HasCome symbols address f
   pub ahead : All (λ g. address < g.begin) (drop f.begun f.sorted.items)
 
--- so many of those that run are enough from an address on, and the last of them ends behind it
+-- so many of those that run are enough from an address on, and the last of them ends after it
 pub record AreEnough (address : ℕ) (running : List Function) (count : ℕ) : Type 0 where
   pub some : count ≤ length running
   pub same : (ahead : List Function) (a : ℕ) → address ≤ a
       → last_at a (take count running ++ ahead) ≡ last_at a (running ++ ahead)
   pub last : (d : Function) → 0 < count → address < (slice_index_or running (count - 1) d).end
 
--- and the last that runs ends behind it
+-- and the last that runs ends after it
 pub record HasEnded (symbols : List Symbol) (address : ℕ) (f : Functions) : Type 0 where
   pub begun : HasBegun symbols address f
   pub last : (d : Function) → 0 < length f.running.items

@@ -32,7 +32,7 @@ columns =
 abbrev pub head : Counted → List ℕ
 head counted = first_column counted ++ columns
 
--- a text at the right of its column, behind a space at least
+-- a text at the right of its column, after a space at least
 abbrev pub column : List ℕ → List ℕ
 column text = 32 ∷ (replicate (7 - length text) 32 ++ text)
 

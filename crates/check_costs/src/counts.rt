@@ -17,11 +17,11 @@ use std::alloc::{AllocError, Global};
 use templates::{Code, Plan};
 
 /// What code counts: its instructions, and its rewritten words by what they are there for.
-#[derive(Clone, Copy, Debug, PartialEq, Eq)]
+#[derive(Clone, Copy, PartialEq, Eq)]
 pub struct WordCounts {
     /// The instructions of the original.
     pub instructions: usize,
-    /// The rewritten words, of which each is of one of the kinds below.
+    /// The rewritten words. Each is of one of the kinds below.
     pub words: usize,
     pub own: usize,
     pub flag_checks: usize,
@@ -37,7 +37,7 @@ impl WordCounts {
     ghost use Rattle.std.specs.Prelude.{◌≡◌, ◌∷◌, [], if◌then◌else◌, replicate, IfSome, OnOk};
     ghost use Rattle.check_costs.specs.Counts.{counts_by, plus};
 
-    /// That of so many instructions, and of words of these kinds.
+    /// The counts of `instructions` instructions, and of words of these kinds.
     pub(crate) fn of(instructions: usize, kinds: &[WordKind]) -> WordCounts
         ensures { result ≡ counts_by instructions kinds.now }
     {
@@ -55,7 +55,7 @@ impl WordCounts {
         }
     }
 
-    /// That of so many words of a kind, of which each commits a step or none does.
+    /// The counts of `words` words of a kind. Each commits a step, or none does.
     pub(crate) fn alike(kind: WordKind, words: usize, commits: bool) -> WordCounts
         ensures { result
             ≡ counts_by (if commits then words else 0) (replicate words kind) }

@@ -53,7 +53,7 @@ fn push_batch(entry: &PlanEntry, code: &Code, kinds: &mut Vec<WordKind>) -> Resu
     Ok(())
 }
 
-/// Appends a kind so many times.
+/// Appends a kind `count` times.
 fn push_many(kind: WordKind, count: u8, kinds: &mut Vec<WordKind>) -> Result<(), AllocError>
     ensures { OnOk result (kinds.new.items ≡ kinds.old.items ++ replicate count kind) }
 {
@@ -174,7 +174,7 @@ fn push_flag_load(
     Ok(())
 }
 
-/// Appends the kinds of the words of an access that is made behind so many words of a check.
+/// Appends the kinds of the words of an access after the words of its check.
 fn push_access(
     template: Template,
     scratches: &Scratches,

@@ -18,7 +18,7 @@ pub(crate) struct Function {
 impl Function {
     ghost use Rattle.std.specs.Prelude.{◌≡◌, ◌+◌};
 
-    /// That of so many bytes from an address on.
+    /// The function of `size` bytes from an address on.
     fn of(begin: u32, size: u32, later: usize) -> Function
         ensures begin { result.begin ≡ begin }
         ensures end { result.end ≡ begin + size }
@@ -60,7 +60,7 @@ impl Functions {
         })
     }
 
-    /// The number of the function that has the byte at an address, or that behind the last. No
+    /// The number of the function that has the byte at an address, or that after the last. No
     /// address is below the one before.
     pub(crate) fn at(&mut self, address: u32) -> Result<usize, AllocError>
         requires come { (symbols : List OfTable) × (before : ℕ)

@@ -7,10 +7,10 @@ ghost use Rattle.check_costs.specs.Kinds.{check_of};
 use templates::Template;
 
 /// What a word of rewritten code is there for.
-#[derive(Clone, Copy, Debug, PartialEq, Eq)]
+#[derive(Clone, Copy, PartialEq, Eq)]
 pub enum WordKind {
-    /// It commits an instruction of the original. A load by its value has two such words, of which
-    /// one commits; and an instruction of a run has one behind the run's check, and one by itself.
+    /// It commits an instruction of the original. A load by its value has two such words, and one
+    /// of them commits. An instruction of a run has one after the run's check, and one by itself.
     /// So what checks add is the number of all words less that of the instructions.
     Own,
     /// It checks a load by its value.
@@ -65,7 +65,7 @@ pub(crate) fn times(kind: WordKind, kinds: &[WordKind]) -> usize
     count
 }
 
-/// How many of so many words, all of one kind, are of another.
+/// How many of `words` words, all of one kind, are of another.
 pub(crate) fn times_alike(other: WordKind, kind: WordKind, words: usize) -> usize
     ensures { result ≡ times other (replicate words kind) }
 {

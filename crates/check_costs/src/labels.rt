@@ -16,10 +16,10 @@ use std::alloc::{AllocError, Global};
 use templates::{Code, Plan};
 
 /// What a word of rewritten code counts as.
-#[derive(Clone, Copy, Debug, PartialEq, Eq)]
+#[derive(Clone, Copy, PartialEq, Eq)]
 pub struct Label {
     /// The number of its function in the executable's table. Of code in none it is the number
-    /// behind the last.
+    /// after the last.
     pub function: usize,
     pub kind: WordKind,
 }
@@ -53,7 +53,7 @@ pub fn labels_of(
     Ok(labels)
 }
 
-/// The label of word 0 alone, which is in none of so many functions.
+/// The label of word 0 alone, which is in none of the functions.
 fn first_labels(alloc: Global, functions: usize) -> Result<Vec<Label>, AllocError>
     ensures { IfOk result (λ labels. labels.items
         ≡ label_in functions of_kind.Jump ∷ []) }

@@ -1,6 +1,8 @@
 #![tactic(auto)]
 //! What checks cost: the words of rewritten code by what they are there for, function by function,
 //! as they stand and as they are executed.
+//!
+//! It hands on [`elf_symbols`], whose functions its table names.
 
 mod counts;
 mod entries;

@@ -11,11 +11,11 @@ use elf_symbols::{Symbols, push_shown};
 use itoa::Buffer;
 use std::alloc::{AllocError, Global};
 
-/// How many characters a column takes at least, behind the space before it.
+/// How many characters a column takes at least, after the space before it.
 const WIDTH: usize = 7;
 
 /// What the first column of a table counts: the instructions of code, or the steps of a run.
-#[derive(Clone, Copy, Debug, PartialEq, Eq)]
+#[derive(Clone, Copy, PartialEq, Eq)]
 pub enum Counted {
     Instructions,
     Steps,
@@ -251,7 +251,7 @@ fn push_number(n: usize, out: &mut Vec<u8>) -> Result<(), AllocError>
     push_column(buffer.format(n).as_bytes(), out)
 }
 
-/// Appends a text at the right of its column, behind a space at least.
+/// Appends a text at the right of its column, after a space at least.
 fn push_column(text: &[u8], out: &mut Vec<u8>) -> Result<(), AllocError>
     ensures { OnOk result (out.new.items ≡ out.old.items ++ model.column text.now) }
 {

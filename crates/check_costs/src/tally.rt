@@ -20,7 +20,7 @@ impl Tally {
     ghost use Rattle.check_costs.specs.Tally.{Executed, tally_of};
     ghost use Rattle.check_costs.specs.Given.{IsTallyOf};
 
-    /// That of no words, in so many functions and in none.
+    /// The tally of no words, in `functions` functions and in none.
     pub fn new(alloc: Global, functions: usize) -> Result<Tally, AllocError>
         ensures { IfOk result (λ t. IsTallyOf functions [] t) }
     {
@@ -40,8 +40,8 @@ impl Tally {
         Ok(())
     }
 
-    /// Adds words of a label that are executed, of which each commits a step of the original or
-    /// none does. Fails where a count has no room.
+    /// Adds words of a label that are executed. Each commits a step of the original, or none does.
+    /// Fails where a count has no room.
     pub fn add_words(&mut self, label: Label, words: usize, commits: bool) -> Result<(), AllocError>
         requires function { label.function < length self.old.counts.items }
         ensures { (functions : ℕ) (before : List Executed) → IsTallyOf functions before self.old
@@ -62,7 +62,7 @@ impl Tally {
     }
 }
 
-/// The counts of no words, in so many functions and in none.
+/// The counts of no words, in `functions` functions and in none.
 fn no_counts(alloc: Global, functions: usize) -> Result<Vec<WordCounts>, AllocError>
     ensures { IfOk result (λ counts. counts.items
         ≡ replicate functions (counts_by 0 []) ++ counts_by 0 [] ∷ []) }

@@ -32,7 +32,7 @@ fn push_poll(out: &mut Vec<u8>, polls: bool) -> Result<(), AllocError>
     Ok(())
 }
 
-/// Appends the run of so many code words that starts at a place, if there is one.
+/// Appends how many code words the run has that starts at a place, if there is one.
 fn push_run(out: &mut Vec<u8>, words: u8, scratches: &Scratches) -> Result<(), AllocError>
     ensures { OnOk result (out.new.items ≡ out.old.items ++ run_text words scratches.now) }
 {

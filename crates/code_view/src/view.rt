@@ -60,8 +60,8 @@ impl<'a> CodeView<'a> {
         Ok(())
     }
 
-    /// Appends the line of an entry's place and those of its words, of which the first has this
-    /// number, and answers the number of the word behind them.
+    /// Appends the line of an entry's place and those of its words. The first word has this number;
+    /// the answer is the number of the word after the last.
     pub fn push_entry(
         &self,
         alloc: Global,
@@ -84,7 +84,7 @@ impl<'a> CodeView<'a> {
         Ok(number + u32::from(words))
     }
 
-    /// Appends the lines of so many words, from this number on.
+    /// Appends the lines of `words` words, from this number on.
     fn push_word_lines(
         &self,
         own: &Plan,

@@ -10,7 +10,7 @@ use Rattle.run_trace.specs.declared.traced.Accessed.{Accessed}
 use Rattle.run_trace.specs.node_machine.declared.wanted.Wanted.{Wanted}
 use Rattle.event_text.specs.Names.{message_name, state_name, access_name, need_name}
 
--- a number behind a name, where there is one
+-- a number after a name, where there is one
 abbrev pub number_text : (name : List ℕ) → Option ℕ → List ℕ
 number_text name None = []
 number_text name (Some n) = name ++ decimal n

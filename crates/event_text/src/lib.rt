@@ -1,5 +1,7 @@
 #![tactic(auto)]
 //! The lines of a trace.
+//!
+//! It hands on what it tells of: [`run_trace`] and [`node_machine`].
 
 mod events;
 mod law;

@@ -49,7 +49,7 @@ pub fn access_name(kind: AccessKind) -> &'static [u8]
     }
 }
 
-/// What a block is wanted for, behind a space.
+/// What a block is wanted for, after a space.
 pub fn need_name(need: Need) -> &'static [u8]
     ensures { result.now ≡ model.need_name need }
 {

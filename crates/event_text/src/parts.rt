@@ -24,7 +24,7 @@ pub fn push_decimal(out: &mut Vec<u8>, n: u64) -> Result<(), AllocError>
     Ok(())
 }
 
-/// Appends a number behind a name, where there is one.
+/// Appends a number after a name, where there is one.
 pub fn push_number(out: &mut Vec<u8>, name: &[u8], number: Option<u8>) -> Result<(), AllocError>
     ensures { OnOk result (out.new.items ≡ out.old.items ++ model.number_text name.now number) }
 {
@@ -110,7 +110,7 @@ pub(crate) fn push_accessed(out: &mut Vec<u8>, access: &Option<Accessed>) -> Res
     Ok(())
 }
 
-/// Appends a state behind a name, where there is one.
+/// Appends a state after a name, where there is one.
 pub fn push_state(out: &mut Vec<u8>, name: &[u8], state: Option<State>) -> Result<(), AllocError>
     ensures { OnOk result (out.new.items ≡ out.old.items ++ model.state_text name.now state) }
 {

@@ -43,8 +43,7 @@ of_both events behind = record { events = events; behind = behind }
 abbrev pub made : List Stored → Option ℕ → Kept
 made items behind = of_both (map traced_of items) behind
 
-both : {a b : List Traced} {c d : Option ℕ} → a ≡ b → c ≡ d
-    → of_both a c ≡ of_both b d
+both : {a b : List Traced} {c d : Option ℕ} → a ≡ b → c ≡ d → of_both a c ≡ of_both b d
 both e f = λ i. of_both (e i) (f i)
 
 count_is : (items : List Stored) (behind : Option ℕ) (seen : List Traced) → made items behind ≡ kept seen
@@ -57,8 +56,7 @@ pub added : (items more : List Stored) (behind : Option ℕ) (seen : List Traced
 added items more behind seen e same few is =
     let count = count_is items behind seen same in
     let lt : length (take 400 seen) < 400 = omega (arith, count, few) in
-    both
-    (ap (map traced_of) is ∙ map-append traced_of items (e ∷ [])
+    both (ap (map traced_of) is ∙ map-append traced_of items (e ∷ [])
     ∙ ap (λ t. t ++ traced_of e ∷ []) (ap (λ (k : Kept). k.events) same)
     ∙ sym (take_small 400 seen (traced_of e) lt))
     (ap (λ (k : Kept). k.behind) same ∙ ap first_stamp (sym (drop_small 400 seen (traced_of e) lt)))

@@ -22,7 +22,7 @@ down_from (Some row) = down_to_row row
 abbrev pub lower_edge : List Traced → ℕ
 lower_edge events = down_to_row (length events)
 
--- what is behind the page goes to the lower edge
+-- what is after the page goes to the lower edge
 abbrev pub down_to : List Traced → Option ℕ → ℕ
 down_to events None = lower_edge events
 down_to events (Some row) = down_to_row row

@@ -2,7 +2,7 @@
 use Rattle.std.specs.Prelude.{ℕ, List, [], ◌∷◌, take, drop, Option, Some, None}
 use Rattle.event_text.specs.run_trace.Traced.{Traced}
 
--- events, and the stamp of the one behind them, if there is one
+-- events, and the stamp of the one after them, if there is one
 pub record Kept : Type 0 where
   pub events : List Traced
   pub behind : Option ℕ

@@ -3,6 +3,7 @@ use Rattle.std.specs.Prelude.{ℕ, Bool, false, ◌&&◌, ◌||◌, ◌==◌, na
 use Rattle.std.specs.List.{list_any}
 use Rattle.event_text.specs.node_machine.declared.wanted.Wanted.{Wanted}
 use Rattle.event_text.specs.run_trace.declared.traced.Accessed.{Accessed}
+use Rattle.event_text.specs.run_trace.Misses.{is_miss}
 use Rattle.event_text.specs.run_trace.Traced.{What, Word, Taken, Traced}
 use Rattle.event_text.specs.Shown.{block_reached, is_block}
 use Rattle.page_events.specs.declared.sought.Sought.{Sought}
@@ -35,14 +36,6 @@ abbrev pub is_about : (b : ℕ) → What → Bool
 is_about b what = is_block b (first_block what) || is_block b (other_block what)
 
 -- 2. Misses and takes
-
-abbrev pub one_asks : List Wanted → Bool
-one_asks ws = list_any (λ (w : Wanted). w.asks) ws
-
--- a word that asks for a block
-abbrev pub is_miss : What → Bool
-is_miss (Word w) = one_asks w.wants
-is_miss (Taken t) = false
 
 -- a want that asks for this block
 abbrev pub asks_for : (b : ℕ) → Wanted → Bool

@@ -1,6 +1,8 @@
 #![tactic(auto)]
 //! The events that a page of a recorded run shows: what is looked for among them, where each is
 //! drawn, and texts within HTML.
+//!
+//! It hands on what its events are: [`event_text`], [`run_trace`] and [`node_machine`].
 
 mod escape;
 mod places;
@@ -15,4 +17,4 @@ pub use places::{
     push_line_of, push_node, push_spot, spot_of,
 };
 pub use shown::Shown;
-pub use sought::{Sought, count_of, first_block, goes_on, is_miss, other_block, row_of};
+pub use sought::{Sought, count_of, first_block, goes_on, other_block, row_of};

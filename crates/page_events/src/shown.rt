@@ -13,7 +13,7 @@ use std::marker::Model;
 /// How many events a page shows at most.
 const MOST: usize = 400;
 
-/// The first 400 of the events that were added, and the stamp of the one behind them, if there is
+/// The first 400 of the events that were added, and the stamp of the one after them, if there is
 /// one: of all others nothing is kept.
 #[derive(Drop)]
 pub struct Shown {
@@ -72,7 +72,7 @@ impl Shown {
         self.add(event_of(word))
     }
 
-    /// Whether the first 400 are there and one is behind them: of what is added from here on
+    /// Whether the first 400 are there and one is after them: of what is added from here on
     /// nothing is kept.
     pub fn is_full(&self) -> bool
         ensures value { result ≡ is_some self.now.behind }
@@ -98,7 +98,7 @@ impl Shown {
         self.events.len() as u32
     }
 
-    /// The stamp of the first event behind them.
+    /// The stamp of the first event after them.
     pub fn behind(&self) -> Option<u64>
         ensures { result ≡ self.now.behind }
     {

@@ -8,7 +8,7 @@ ghost use Rattle.page_events.specs.Sought as model;
 use crate::shown::Shown;
 use block_layout::Block;
 use event_text::node_machine::{Wanted, WantedBlocks};
-use event_text::run_trace::{Traced, What};
+use event_text::run_trace::{Traced, What, is_miss};
 use event_text::{block_reached, is_block};
 
 /// What is looked for among the events of a page.
@@ -75,32 +75,6 @@ pub fn goes_on(what: &What) -> bool
     match what {
         What::Word(_) => false,
         What::Take(take) => take.resumes,
-    }
-}
-
-/// Whether a block is asked for.
-pub fn is_miss(what: &What) -> bool
-    ensures { result ≡ model.is_miss (what_of what.now) }
-{
-    match what {
-        What::Word(word) => one_asks(&word.wants),
-        What::Take(_) => false,
-    }
-}
-
-/// Whether one of the wants asks for its block.
-fn one_asks(wants: &Option<WantedBlocks>) -> bool
-    ensures { result ≡ model.one_asks (wanted_in wants.now) }
-{
-    match wants {
-        Some(wants) => {
-            wants.first.asks
-                || match wants.other {
-                    Some(other) => other.asks,
-                    None => false,
-                }
-        }
-        None => false,
     }
 }
 

@@ -60,7 +60,7 @@ abbrev pub following_text : (from : ℕ) → (to : Option ℕ) → List ℕ
 following_text from to =
     codes "<p>More follow: <code>" ++ (escaped (words_text from to) ++ codes "</code></p>\n")
 
--- how the events behind those of the page are shown
+-- how the events after those of the page are shown
 abbrev pub next_text : (to behind : Option ℕ) → List ℕ
 next_text to None = []
 next_text to (Some s) = following_text s to

@@ -8,13 +8,13 @@ use Rattle.exec_map.specs.Contents.{word_at}
 use Rattle.templates.specs.declared.places.Place.{Place}
 use Rattle.page_events.specs.node_machine.declared.wanted.Wanted.{Wanted}
 use Rattle.page_events.specs.run_trace.declared.traced.Accessed.{Accessed}
+use Rattle.page_events.specs.run_trace.Misses.{is_miss}
 use Rattle.page_events.specs.run_trace.Traced.{OfWord, OfTake, What, Word, Taken, Traced}
 use Rattle.page_events.specs.event_text.Names.{access_name, need_name}
 use Rattle.page_events.specs.event_text.Parts.{number_text, text_if, header_text, state_text, original_text}
 use Rattle.page_events.specs.event_text.Events.{event_line}
 use Rattle.page_events.specs.declared.places.Spot.{Spot}
 use Rattle.page_events.specs.Escape.{escaped}
-use Rattle.page_events.specs.Sought.{is_miss}
 use Rattle.page_events.specs.Places.{spot_of}
 use Rattle.page_view.specs.Marks.{mark_of, mark_text}
 

@@ -3,11 +3,12 @@ use Rattle.std.specs.Prelude.{ℕ, Bool, ◌&&◌, not, if◌then◌else◌, Lis
 use Rattle.std.specs.Fmt.{decimal}
 use Rattle.std.specs.Option.{option_map_or}
 use Rattle.std.specs.List.{flat_map}
+use Rattle.page_events.specs.run_trace.Misses.{is_miss}
 use Rattle.page_events.specs.run_trace.Traced.{Traced}
 use Rattle.page_events.specs.declared.places.Spot.{Spot}
 use Rattle.page_view.specs.declared.waits.DrawnWait.{DrawnWait}
 use Rattle.page_events.specs.declared.sought.Sought.TheVariants.{GoesOn, Misses}
-use Rattle.page_events.specs.Sought.{goes_on, is_miss, row_of}
+use Rattle.page_events.specs.Sought.{goes_on, row_of}
 use Rattle.page_events.specs.Places.{line_of, down_from, down_to, own_row, spot_text}
 
 -- from a miss to where the node goes on next

@@ -1,5 +1,7 @@
 #![tactic(auto)]
 //! A page of a recorded run: at most 400 events as a diagram of the nodes and their messages.
+//!
+//! It hands on [`page_events`], which it draws.
 
 mod arrows;
 mod blocks;

@@ -46,7 +46,7 @@ fn push_start(out: &mut Vec<u8>, layout: &Layout) -> Result<(), AllocError>
     push_heading(out, layout)
 }
 
-/// Appends which events the page shows, and how those behind them are shown.
+/// Appends which events the page shows, and how those after them are shown.
 fn push_events(
     alloc: Global,
     out: &mut Vec<u8>,
@@ -142,7 +142,7 @@ fn push_range(out: &mut Vec<u8>, shown: &Shown) -> Result<(), AllocError>
     }
 }
 
-/// Appends how the events behind those of the page are shown, if there are any.
+/// Appends how the events after those of the page are shown, if there are any.
 fn push_next(
     alloc: Global,
     out: &mut Vec<u8>,

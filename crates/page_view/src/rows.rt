@@ -13,8 +13,8 @@ use page_events::event_text::{
     push_original, push_state,
 };
 use page_events::node_machine::{Wanted, WantedBlocks};
-use page_events::run_trace::{Accessed, TakeTraced, Traced, What, WordTraced};
-use page_events::{Shown, Spot, is_miss, push_count, push_escaped, push_node, spot_of};
+use page_events::run_trace::{Accessed, TakeTraced, Traced, What, WordTraced, is_miss};
+use page_events::{Shown, Spot, push_count, push_escaped, push_node, spot_of};
 use std::alloc::{AllocError, Global};
 use templates::Place;
 

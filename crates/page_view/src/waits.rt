@@ -5,10 +5,10 @@ ghost use Rattle.page_events.specs.run_trace.Given.{traced_of};
 ghost use Rattle.page_view.specs.Waits as model;
 
 use block_layout::Layout;
-use page_events::run_trace::Traced;
+use page_events::run_trace::{Traced, is_miss};
 use page_events::{
-    Shown, Sought, Spot, down_from, down_to, goes_on, is_miss, line_of, own_row, push_count,
-    push_spot, row_of,
+    Shown, Sought, Spot, down_from, down_to, goes_on, line_of, own_row, push_count, push_spot,
+    row_of,
 };
 use std::alloc::AllocError;
 

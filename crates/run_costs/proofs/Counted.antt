@@ -29,9 +29,9 @@ use Rattle.run_trace.specs.Trace.{trace_from}
 use Rattle.run_trace.specs.Traced.{OfWord, Traced, What, Word, first_traced, traced_at, what_at, word_traced}
 use Rattle.run_trace.specs.Tracing.{AreVisitsOf, HasTraced, HasTracedMore, HasTracedOne, HasTracedSilent, HasTracedWords, IsSame, kinds_traced, plan_traced, work_traced}
 use Rattle.run_trace.specs.Visited.{CommitByNumber}
-use Rattle.run_trace.specs.node_machine.word_visits.declared.visits.Visits.{Visits}
-use Rattle.run_trace.specs.node_machine.word_visits.Visits.{AreCounted, WordVisits}
-use Rattle.run_trace.specs.node_machine.word_visits.VisitTables.{visits_of}
+use Rattle.word_visits.specs.declared.visits.Visits.{Visits}
+use Rattle.word_visits.specs.Visits.{AreCounted, WordVisits}
+use Rattle.word_visits.specs.VisitTables.{visits_of}
 use Rattle.run_trace.specs.replay.dsm_core.CoreWords.{HasPassedWords}
 use Rattle.run_trace.proofs.Tracings.{events_traced, told_append, traced_on, visits_same}
 use Rattle.run_costs.specs.declared.counting.Counting.{Counting}
@@ -116,10 +116,8 @@ seen_made : (t u : Tracer) (before : List Told) (e : Event) (x : Stored) → Has
 seen_made t u before e x one =
     let core = core_of (core_in t.replayer) in
     let told = one.told.what in
-    ap (λ es. get_or es 0 e)
-    (ap (λ o. map event_seen (option_to_list o)) (sym one.is)
-    ∙ seen_one (work_traced t) (plan_traced t) core told.stamp told.event one.may)
-    ∙ one.event_is
+    ap (λ es. get_or es 0 e) (ap (λ o. map event_seen (option_to_list o)) (sym one.is)
+    ∙ seen_one (work_traced t) (plan_traced t) core told.stamp told.event one.may) ∙ one.event_is
 
 -- 2. One more
 
@@ -188,8 +186,7 @@ module _ (symbols : List Symbol) (c d : Counting) (seen : List Traced) (h : HasC
         let plan = plan_in c in
         let core = core_of (core_in c.tracer.replayer) in
         counted_on x (record { label = label; commits = commits } ∷ []) traced
-        (subst (May work core) (sym is) may)
-        (ap (words_at symbols work plan core) is
+        (subst (May work core) (sym is) may) (ap (words_at symbols work plan core) is
         ∙ (λ j. record { label = sym label_is j; commits = sym commits_is j } ∷ []))
         (add (length symbols) h.singly h.tallied)
 
@@ -256,8 +253,7 @@ module _ (symbols : List Symbol) (c d : Counting) (seen : List Traced) (h : HasC
         (after (work_in c) (opening_core (work_in c)) (map event_seen seen)) es ≡ words
         → AreVisitsOf d.tracer d.visits
         → ((p : Executed → Bool) → count_by p (words_visited symbols d)
-        ≡ count_by p (words_visited symbols c) + count_by p words)
-        → HasCountedMore symbols d seen
+        ≡ count_by p (words_visited symbols c) + count_by p words) → HasCountedMore symbols d seen
     events_counted es words s did visits adds =
         let work = work_in c in
         let plan = plan_in c in
@@ -303,8 +299,7 @@ module _ (symbols : List Symbol) (c d : Counting) (seen : List Traced) (h : HasC
         let words = words_from symbols work plan core (replicate k (Exec i)) in
         events_counted (replicate k (Exec i)) words s
         (sym (run_alike symbols work plan i k core then passed.last passed.goes_on (alike_seen c.tracer seen h.traced)))
-        visits
-        (λ p.
+        visits (λ p.
         let first = first_label symbols in
         let run = run_adds symbols work plan c.labels.items (kinds_traced c.tracer) h.labels p i k core
         (visits_of c.visits) (visits_of d.visits) counted commit in
@@ -322,8 +317,7 @@ module _ (symbols : List Symbol) (c d : Counting) (seen : List Traced) (h : HasC
         events_counted (Take i k ∷ []) []
         (events_traced c.tracer d.tracer seen (one.told ∷ []) (Take i k ∷ []) h.traced one.made
         (ap (λ (e : Event). e ∷ []) one.event_is) same)
-        refl
-        (visits_same c.tracer d.tracer d.visits same
+        refl (visits_same c.tracer d.tracer d.visits same
         (subst (λ (v : Visits). AreVisitsOf c.tracer v) (sym visits) h.visits))
         (λ p. let same_count = ap (count_by p) visited in omega (arith, same_count))
 

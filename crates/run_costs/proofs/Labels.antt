@@ -2,7 +2,7 @@
 use Rattle.std.proofs.Common.{◌≡◌, ℕ, ◌+◌, ◌<◌, ◌≤◌, List, [], ◌∷◌, length, get_or, sym, ap, ◌∙◌, subst, arith, inl, inr}
 use Rattle.std.specs.Prelude.{All}
 use Rattle.std.proofs.lemmas.Bool.Decides.{leb_tells}
-use Rattle.std.proofs.lemmas.List.{get_or_default, get_or_past}
+use Rattle.std.proofs.lemmas.List.{get_or_past}
 use Rattle.std.proofs.lemmas.List.Elements.{All-nil, All-cons}
 use Rattle.std.proofs.lemmas.List.FromFn.{length-map-range_with_len}
 use Rattle.check_costs.specs.elf_symbols.Symbols.{Symbol}
@@ -17,15 +17,6 @@ use Rattle.run_trace.specs.node_model.Core.{Core, Event, Exec, Take, event_step}
 use Rattle.run_costs.specs.Costs.{label_at, next_word, words_from}
 
 -- 1. One label
-
-pub label_found : (labels : List Label) (k : ℕ) (found first : Label) → k < length labels
-    → found ≡ get_or labels k found → found ≡ get_or labels k first
-label_found labels k found first low is = is ∙ get_or_default labels k found first low
-
-pub label_missing : (labels : List Label) (k : ℕ) (found first : Label) → 0 < length labels → length labels ≤ k
-    → found ≡ get_or labels 0 found → get_or labels 0 first ≡ first → found ≡ get_or labels k first
-label_missing labels k found first some high is at =
-    is ∙ get_or_default labels 0 found first some ∙ at ∙ sym (get_or_past labels k first high)
 
 pub label_is : (symbols : List Symbol) (work : Work) (plan : List PlanEntry) (labels shown : List Label)
     (label : Label) (at a : ℕ) → shown ≡ labels → labels ≡ labels_of symbols work.program.code plan → at ≡ a

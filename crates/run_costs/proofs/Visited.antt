@@ -9,7 +9,7 @@ use Rattle.check_costs.specs.Tally.{Executed, first_label, labels_of}
 use Rattle.run_trace.specs.node_model.jump_map.templates.declared.plans.PlanEntry.{PlanEntry}
 use Rattle.run_trace.specs.node_model.Node.{Work, Node}
 use Rattle.run_trace.specs.node_model.Core.{AreAlike, Core, Event, Exec, after, event_step}
-use Rattle.run_trace.specs.node_machine.word_visits.Visits.{AreCounted, WordVisits, next_number, visited}
+use Rattle.word_visits.specs.Visits.{AreCounted, WordVisits, next_number, visited}
 use Rattle.run_trace.specs.replay.dsm_core.CoreWords.{GoesOnBy}
 use Rattle.run_trace.specs.replay.rewriting_law.CoreRun.{commits}
 use Rattle.run_trace.specs.declared.kinds.CommitKinds.{CommitKinds}
@@ -91,8 +91,7 @@ run_alike symbols work plan i (suc k) c d last goes alike =
 module _ (symbols : List Symbol) (work : Work) (plan : List PlanEntry) (labels : List Label) (kinds : CommitKinds)
     (are : labels ≡ labels_of symbols work.program.code plan) (p : Executed → Bool) where
   -- a node's next word is the one of its number
-  next_is : (n : Node) (b : Bool) → commits work plan n ≡ b
-      → next_word symbols work plan n
+  next_is : (n : Node) (b : Bool) → commits work plan n ≡ b → next_word symbols work plan n
       ≡ record { label = get_or labels (next_number n) (first_label symbols); commits = b }
   next_is n b is = λ j. record { label = get_or (sym are j) (next_number n) (first_label symbols); commits = is j }
 

@@ -16,8 +16,8 @@ use Rattle.run_trace.specs.Traced.{Traced, What, Word, Taken}
 use Rattle.run_trace.specs.Tracing.{AreVisitsOf, HasTraced, IsSame, events_to_trace, kinds_traced, plan_traced, record_traced, replayer_in, work_traced}
 use Rattle.run_trace.specs.Visited.{commits_visited}
 use Rattle.run_trace.specs.declared.kinds.CommitKinds.{CommitKinds}
-use Rattle.run_trace.specs.node_machine.word_visits.Visits.{WordVisits}
-use Rattle.run_trace.specs.node_machine.word_visits.VisitTables.{visits_of}
+use Rattle.word_visits.specs.Visits.{WordVisits}
+use Rattle.word_visits.specs.VisitTables.{visits_of}
 use Rattle.run_costs.specs.declared.counting.Counting.{Counting}
 use Rattle.run_costs.specs.Costs.{words_from}
 

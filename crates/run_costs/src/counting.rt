@@ -5,7 +5,7 @@ ghost use Rattle.std.specs.Prelude.{IfOk};
 ghost use Rattle.check_costs.specs.declared.labels.Label.{Label as OfWord};
 ghost use Rattle.check_costs.specs.Given.{IsTallyOf};
 ghost use Rattle.check_costs.specs.Tally.{Executed};
-ghost use Rattle.run_trace.specs.node_machine.word_visits.VisitTables.{visits_of};
+ghost use Rattle.word_visits.specs.VisitTables.{visits_of};
 ghost use Rattle.run_trace.specs.node_model.jump_map.Image.{number_of_word};
 ghost use Rattle.run_trace.specs.Given.{what_of};
 ghost use Rattle.run_trace.specs.Traced as trace;
@@ -16,7 +16,6 @@ use crate::RunCosts;
 use crate::nodes::nodes_of;
 use check_costs::elf_symbols::Symbols;
 use check_costs::{Label, Tally, labels_of};
-use run_trace::node_machine::Visits;
 use run_trace::replay::dsm_core::{Event, Work};
 use run_trace::replay::node_model::jump_map::IMAGE_BASE;
 use run_trace::replay::node_model::jump_map::templates::{Code, Plan};
@@ -24,6 +23,7 @@ use run_trace::replay::run_record::Record;
 use run_trace::replay::{ReplayRefused, WordsAhead};
 use run_trace::{Traced, Tracer, What};
 use std::alloc::{AllocError, Global};
+use word_visits::Visits;
 
 /// A recorded run that is made once more, and what its words count so far.
 #[derive(Drop)]
@@ -330,7 +330,7 @@ fn with_visits(
     Ok(tally)
 }
 
-/// The label of the word at an address, of which the first stands for an address without one.
+/// The label of the word at an address. The first label stands for an address without one.
 fn label_at(labels: &[Label], at: u32) -> Label
     requires some { 0 < length labels.now }
     ensures { (first : OfWord) → slice_index_or labels.now 0 first ≡ first
@@ -339,7 +339,7 @@ fn label_at(labels: &[Label], at: u32) -> Label
     label_of(labels, (at.saturating_sub(IMAGE_BASE) / 4) as usize)
 }
 
-/// The label of the word of a number, of which the first stands for a number without one.
+/// The label of the word of a number. The first label stands for a number without one.
 fn label_of(labels: &[Label], number: usize) -> Label
     requires some { 0 < length labels.now }
     ensures { (first : OfWord) → slice_index_or labels.now 0 first ≡ first

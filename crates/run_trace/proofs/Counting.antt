@@ -7,20 +7,20 @@ use Rattle.std.proofs.lemmas.Bool.Decides.{eqb_tells}
 use Rattle.std.proofs.lemmas.List.{length-map}
 use Rattle.block_layout.specs.Layout.{Shape}
 use Rattle.buf_pool.specs.Pool.{empty_buffer}
-use Rattle.home_directory.specs.dsm_messages.declared.messages.Message.{Message}
-use Rattle.home_directory.specs.dsm_messages.declared.messages.Message.TheVariants.{Read, Write, FwdRead, FwdWrite, Inval, Data, Grant, Ack, Done, Bye}
-use Rattle.home_directory.specs.dsm_messages.declared.messages.Wire.{Wire}
-use Rattle.home_directory.specs.Table.{Miss, want_row}
-use Rattle.node_model.specs.miss_handlers.Effects.{block_facts}
-use Rattle.node_model.specs.miss_handlers.Rows.{Row, AtHome, AtNode, clears}
+use Rattle.replay.specs.node_model.home_directory.dsm_messages.declared.messages.Message.{Message}
+use Rattle.replay.specs.node_model.home_directory.dsm_messages.declared.messages.Message.TheVariants.{Read, Write, FwdRead, FwdWrite, Inval, Data, Grant, Ack, Done, Bye}
+use Rattle.replay.specs.node_model.home_directory.dsm_messages.declared.messages.Wire.{Wire}
+use Rattle.replay.specs.node_model.home_directory.Table.{Miss, want_row}
+use Rattle.replay.specs.node_model.miss_handlers.Effects.{block_facts}
+use Rattle.replay.specs.node_model.miss_handlers.Rows.{Row, AtHome, AtNode, clears}
 use Rattle.templates.specs.declared.plans.PlanEntry.{PlanEntry}
 use Rattle.rv32_program.specs.declared.End.TheVariants.{Stopped}
-use Rattle.node_model.specs.declared.NodeCounts.{NodeCounts}
-use Rattle.node_model.specs.Node.{Work, Node, Want, Phase, Running, Resumed, Waiting, Ended, Nothing_counted, lane_resumed, tally_resumed, counts_after, stop_or, word_outcome}
-use Rattle.node_model.specs.Turns.{Turn, block_at, want_in, want_all, with_miss, with_byes, wants_of, each_block_once, count_want, count_row, after_word, after_wants, word_turn, by_row_or, handled, has_no_wait, resumed, journaled, after_message, take_turn, is_ended}
-use Rattle.node_model.specs.Core.{Core, Event, Exec, Take, take_first, event_step, after}
+use Rattle.replay.specs.node_model.declared.NodeCounts.{NodeCounts}
+use Rattle.replay.specs.node_model.Node.{Work, Node, Want, Phase, Running, Resumed, Waiting, Ended, Nothing_counted, lane_resumed, tally_resumed, counts_after, stop_or, word_outcome}
+use Rattle.replay.specs.node_model.Turns.{Turn, block_at, want_in, want_all, with_miss, with_byes, wants_of, each_block_once, count_want, count_row, after_word, after_wants, word_turn, by_row_or, handled, has_no_wait, resumed, journaled, after_message, take_turn, is_ended}
+use Rattle.replay.specs.node_model.Core.{Core, Event, Exec, Take, take_first, event_step, after}
 use Rattle.replay.specs.run_order.OwnRun.{Stamped, run_of}
-use Rattle.home_directory.specs.dsm_messages.Headers.{sent_by}
+use Rattle.replay.specs.node_model.home_directory.dsm_messages.Headers.{sent_by}
 use Rattle.replay.specs.node_machine.Wanted.{block_with, wanted, wants_along}
 use Rattle.run_trace.specs.Traced.{Traced, What, Word, Taken, word_traced, row_met, is_waiting, tally_of_wait, take_traced, first_traced, traced_at}
 use Rattle.run_trace.specs.Trace.{trace_from}
@@ -66,8 +66,7 @@ word_counts work plan n =
 none_more : (c : NodeCounts) → c ≡ count_row false 0 c
 none_more c = λ t. record c { messages = sym (add-zero c.messages) t }
 
-row_counts : (layout : Shape) (n : Node) (o : Option Row)
-    → (by_row_or layout n o).node.counts
+row_counts : (layout : Shape) (n : Node) (o : Option Row) → (by_row_or layout n o).node.counts
     ≡ count_row (option_map_or clears o false) (length (by_row_or layout n o).sends) n.counts
 row_counts layout n None = none_more n.counts
 row_counts layout n (Some (AtHome b row)) = refl
@@ -115,8 +114,7 @@ goes_on false e h = refl
 
 -- what a node counts that goes on
 resumed_counts : (work : Work) (n : Node) (phase : Phase) → n.phase ≡ phase
-    → (resumed work n phase).counts
-    ≡ counts_after
+    → (resumed work n phase).counts ≡ counts_after
     (cond (is_waiting (resumed work n phase).phase) Nothing_counted
     (tally_of_wait (resumed work n phase) phase)) n.counts
 resumed_counts work n Running is = ap (λ x. counts_after x n.counts)
@@ -134,8 +132,7 @@ resumed_counts work n (Waiting resume) is = by (has_no_wait work.layout n)
       counts = counts_after (tally_resumed n.local resume) n.counts;
     }
 
-    by : (b : Bool) → (cond b on n).counts
-        ≡ counts_after
+    by : (b : Bool) → (cond b on n).counts ≡ counts_after
         (cond (is_waiting (cond b on n).phase) Nothing_counted (tally_of_wait (cond b on n) (Waiting resume)))
         n.counts
     by true =
@@ -177,11 +174,9 @@ at_node i k nodes m w stamp h =
     ]
 
 first_counts : (work : Work) (c : Core) (i k j stamp : ℕ) (wires : List Wire)
-    → counts_from i
-    (option_to_list
+    → counts_from i (option_to_list
     (option_map (λ w. record { stamp = stamp; node = k; what = w }) (first_traced work (c.nodes k) j wires)))
-    (c.nodes i).counts
-    ≡ ((take_first work c k j wires).nodes i).counts
+    (c.nodes i).counts ≡ ((take_first work c k j wires).nodes i).counts
 first_counts work c i k j stamp [] = refl
 first_counts work c i k j stamp (wire ∷ rest) =
     at_node i k c.nodes (take_turn work (c.nodes k) j wire).node (Taken (take_traced work (c.nodes k) j wire)) stamp

@@ -12,8 +12,8 @@ use Rattle.templates.specs.declared.commits.CommitKind.{CommitKind}
 use Rattle.templates.specs.declared.commits.CommitKind.TheVariants.{Never}
 use Rattle.templates.specs.declared.places.Place.{Place}
 use Rattle.templates.specs.declared.plans.PlanEntry.{PlanEntry}
-use Rattle.node_model.specs.jump_map.Image.{Cell, image_base}
-use Rattle.node_model.specs.jump_map.Maps.{index_of, old_of}
+use Rattle.replay.specs.node_model.jump_map.Image.{Cell, image_base}
+use Rattle.replay.specs.node_model.jump_map.Maps.{index_of, old_of}
 use Rattle.run_trace.specs.Kinds.{kind_by}
 
 -- the place of the word of a number
@@ -24,9 +24,6 @@ place_in image k = option_and_then (λ (c : Cell). c.place) (slice_get image k)
 pub record AreKindsTo (program : Program) (plan : List PlanEntry) (image : List Cell) (kinds : List CommitKind) (n : ℕ) : Type 0 where
   pub len : length kinds ≡ n
   pub each : (k : ℕ) → k < n → slice_index_or kinds k Never ≡ commit_at program plan (place_in image k)
-
-pub no_kinds : (program : Program) (plan : List PlanEntry) (image : List Cell) → AreKindsTo program plan image [] 0
-no_kinds program plan image = record { len = refl; each = λ k lt. absurd (omega (arith, lt)) }
 
 pub index_at : (k : ℕ) → index_of (image_base + 4 * k) ≡ Some k
 index_at k =

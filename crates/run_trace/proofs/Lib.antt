@@ -1,7 +1,6 @@
 mod Entering
 mod Kinded
 mod Counting
-mod Reaches
 mod WordEnds
 mod Meets
 mod TakeEnds

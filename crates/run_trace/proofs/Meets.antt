@@ -3,17 +3,17 @@
 use Rattle.std.proofs.Common.{◌≡◌, ℕ, ◌+◌, ◌⊎◌, Bool, true, false, not, cond, eqb, ltb, leb, ◌&&◌, List, [], ◌∷◌, ◌++◌, Option, Some, None, refl, sym, ap, ◌∙◌, inl, inr}
 use Rattle.std.specs.Prelude.{is_some, is_none}
 use Rattle.buf_pool.specs.Pool.{Buffer}
-use Rattle.home_directory.specs.dsm_messages.declared.messages.Need.{Need}
-use Rattle.home_directory.specs.dsm_messages.declared.messages.Need.TheVariants.{Read as reading, Write as writing}
-use Rattle.home_directory.specs.dsm_messages.declared.messages.Message.{Message}
-use Rattle.home_directory.specs.dsm_messages.declared.messages.Message.TheVariants.{Read, Write, FwdRead, FwdWrite, Inval, Data, Grant, Ack, Done, Bye}
-use Rattle.home_directory.specs.dsm_messages.declared.messages.Post.{Post}
-use Rattle.home_directory.specs.declared.directory.Busy.{Busy}
-use Rattle.home_directory.specs.declared.directory.Request.{Request}
-use Rattle.home_directory.specs.declared.wait.Wait.{Wait}
-use Rattle.home_directory.specs.declared.wait.Answer.TheVariants.{ByData, ByGrant}
-use Rattle.home_directory.specs.Home.{DirectoryEntry, Home, done_with, invals, others, post, waits}
-use Rattle.home_directory.specs.Table.{Start, HomeRow, start_row, start_at, start_or, start_home, next_start, ask_when, ask_row, done_when, done_row, done_home, first_leaves, BlockFacts, LocalBlock, NodeRow, without_block, data_row, grant_row, ack_row, completion, is_complete, with_answer, one_ack_more, is_write, is_shared, node_row}
+use Rattle.replay.specs.node_model.home_directory.dsm_messages.declared.messages.Need.{Need}
+use Rattle.replay.specs.node_model.home_directory.dsm_messages.declared.messages.Need.TheVariants.{Read as reading, Write as writing}
+use Rattle.replay.specs.node_model.home_directory.dsm_messages.declared.messages.Message.{Message}
+use Rattle.replay.specs.node_model.home_directory.dsm_messages.declared.messages.Message.TheVariants.{Read, Write, FwdRead, FwdWrite, Inval, Data, Grant, Ack, Done, Bye}
+use Rattle.replay.specs.node_model.home_directory.dsm_messages.declared.messages.Post.{Post}
+use Rattle.replay.specs.node_model.home_directory.declared.directory.Busy.{Busy}
+use Rattle.replay.specs.node_model.home_directory.declared.directory.Request.{Request}
+use Rattle.replay.specs.node_model.home_directory.declared.wait.Wait.{Wait}
+use Rattle.replay.specs.node_model.home_directory.declared.wait.Answer.TheVariants.{ByData, ByGrant}
+use Rattle.replay.specs.node_model.home_directory.Home.{DirectoryEntry, Home, done_with, invals, others, post, waits}
+use Rattle.replay.specs.node_model.home_directory.Table.{Start, HomeRow, start_row, start_at, start_or, start_home, next_start, ask_when, ask_row, done_when, done_row, done_home, first_leaves, BlockFacts, LocalBlock, NodeRow, without_block, data_row, grant_row, ack_row, completion, is_complete, with_answer, one_ack_more, is_write, is_shared, node_row}
 use Rattle.state_table.specs.declared.State.TheVariants.{Shared}
 use Rattle.state_table.specs.StateByte.{can_read}
 use Rattle.run_trace.specs.Taking.{answered_in, counted_in}
@@ -177,8 +177,7 @@ node_on f l j (FwdWrite b r k buf) =
       gives_back = false;
     })) (TellsNode l) (inl refl)
 node_on f l j (Inval b r) =
-    on_if ((eqb j f.home && is_shared l.state) && ltb r f.nodes)
-    (Some (record {
+    on_if ((eqb j f.home && is_shared l.state) && ltb r f.nodes) (Some (record {
       block = without_block f l;
       sends = post r (Ack b) ∷ [];
       clears = true;

@@ -1,17 +1,17 @@
 -- Silent words leave nothing in a trace but where they stand and what they access.
 use Rattle.std.proofs.Common.{◌≡◌, ℕ, ◌+◌, Bool, true, false, cond, ◌||◌, List, [], ◌∷◌, ◌++◌, map, Option, Some, None, refl, sym, ap, ◌∙◌, subst}
 use Rattle.std.specs.Option.{option_map, option_map_or}
-use Rattle.rv32_step.specs.OneMemory.{Access}
+use Rattle.replay.specs.node_model.rv32_step.OneMemory.{Access}
 use Rattle.templates.specs.Commits.{commit_at}
 use Rattle.templates.specs.declared.plans.PlanEntry.{PlanEntry}
-use Rattle.node_model.specs.jump_map.Maps.{old_of}
-use Rattle.home_directory.specs.dsm_messages.declared.messages.Post.{Post}
-use Rattle.home_directory.specs.dsm_messages.Headers.{sent_by}
-use Rattle.node_model.specs.declared.Standing.{Standing}
-use Rattle.node_model.specs.declared.Standing.TheVariants as standing
-use Rattle.node_model.specs.Node.{Work, Node, Move, Next, Again, To, Enters, Waits, Leaves, Phase, Running, Resumed, Waiting, Ended, Nothing_counted, word_outcome, phase_after, end_of, standing_in, standing_of, has_all_byes}
-use Rattle.node_model.specs.Turns.{Turn, with_byes, byes_to, is_ended, wants_of, each_block_once, after_word, after_wants}
-use Rattle.node_model.specs.Core.{Core, Exec, may_execute}
+use Rattle.replay.specs.node_model.jump_map.Maps.{old_of}
+use Rattle.replay.specs.node_model.home_directory.dsm_messages.declared.messages.Post.{Post}
+use Rattle.replay.specs.node_model.home_directory.dsm_messages.Headers.{sent_by}
+use Rattle.replay.specs.node_model.declared.Standing.{Standing}
+use Rattle.replay.specs.node_model.declared.Standing.TheVariants as standing
+use Rattle.replay.specs.node_model.Node.{Work, Node, Move, Next, Again, To, Enters, Waits, Leaves, Phase, Running, Resumed, Waiting, Ended, Nothing_counted, word_outcome, phase_after, end_of, standing_in, standing_of, has_all_byes}
+use Rattle.replay.specs.node_model.Turns.{Turn, with_byes, byes_to, is_ended, wants_of, each_block_once, after_word, after_wants}
+use Rattle.replay.specs.node_model.Core.{Core, Exec, may_execute}
 use Rattle.replay.specs.rewriting_law.CoreRun.{is_exit, is_wait}
 use Rattle.replay.specs.node_machine.declared.touch.Touch.{Touch}
 use Rattle.replay.specs.node_machine.declared.touch.Touch.TheVariants as touch
@@ -66,8 +66,7 @@ may_after : (work : Work) (c : Core) (i : ℕ) → IsSilent work c (Exec i)
 may_after work c i q =
     subst (λ (k : Node). may_execute (standing_of work k) ≡ true) (turn_node work (c.nodes i)) q.1
 
-may_moved : (work : Work) (c : Core) (i : ℕ) → IsSilent work c (Exec i)
-    → let n = c.nodes i in
+may_moved : (work : Work) (c : Core) (i : ℕ) → IsSilent work c (Exec i) → let n = c.nodes i in
     may_execute (standing_in work (after_wants work n).node
     (phase_after work.budget (n.executed + 1) (word_outcome work n).move)) ≡ true
 may_moved work c i q =
@@ -152,11 +151,9 @@ silent_commits work plan c i r q is =
 -- a word that ends a pass, by what is seen of it
 pub word_is : (work : Work) (plan : List PlanEntry) (c : Core) (i : ℕ) (t : Touch) (w : WordPassed) (r : Reached)
     → IsSilent work c (Exec i) → IsTouch work (c.nodes i) t → Some r ≡ access_seen (word_outcome work (c.nodes i)).access
-    → w.place ≡ old_of work.image (c.nodes i).lane.at
-    → w.commits
+    → w.place ≡ old_of work.image (c.nodes i).lane.at → w.commits
     ≡ (false || commits_when (commit_at work.program plan (old_of work.image (c.nodes i).lane.at)) (Some r) false)
-    → w.access ≡ accessed_at work.layout r
-    → word_traced work plan (c.nodes i) ≡ record {
+    → w.access ≡ accessed_at work.layout r → word_traced work plan (c.nodes i) ≡ record {
       place = w.place;
       commits = w.commits;
       access = Some w.access;

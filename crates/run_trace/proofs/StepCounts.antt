@@ -2,16 +2,16 @@
 use Rattle.std.proofs.Common.{◌≡◌, ℕ, zero, suc, ◌+◌, Bool, true, false, cond, List, [], ◌∷◌, ◌++◌, map, get_or, Option, None, Some, refl, sym, ap, ◌∙◌, arith}
 use Rattle.std.specs.List.{count_by}
 use Rattle.std.proofs.lemmas.List.Sums.{sum_by-append}
-use Rattle.rv32_step.specs.OneMemory.{Break, Step}
+use Rattle.replay.specs.node_model.rv32_step.OneMemory.{Break, Step}
 use Rattle.templates.specs.declared.commits.CommitKind.{CommitKind}
 use Rattle.templates.specs.declared.commits.CommitKind.TheVariants.{Never}
 use Rattle.templates.specs.declared.plans.PlanEntry.{PlanEntry}
-use Rattle.home_directory.specs.dsm_messages.declared.messages.Wire.{Wire}
-use Rattle.node_model.specs.Node.{Node, Work}
-use Rattle.node_model.specs.Core.{Core, Event, Exec, Take, after, event_step}
+use Rattle.replay.specs.node_model.home_directory.dsm_messages.declared.messages.Wire.{Wire}
+use Rattle.replay.specs.node_model.Node.{Node, Work}
+use Rattle.replay.specs.node_model.Core.{Core, Event, Exec, Take, after, event_step}
 use Rattle.replay.specs.rewriting_law.CoreRun.{Order, break_by, commits, order_of, picks_at, picks_of, picks_of_take}
-use Rattle.replay.specs.node_machine.word_visits.Tallies.{IsTallied, WordTally, step_at, tally_at}
-use Rattle.replay.specs.node_machine.word_visits.Visits.{next_number}
+use Rattle.word_visits.specs.Tallies.{IsTallied, WordTally, step_at, tally_at}
+use Rattle.word_visits.specs.Visits.{next_number}
 use Rattle.run_trace.specs.declared.kinds.CommitKinds.{CommitKinds}
 use Rattle.run_trace.specs.Committing.{IsSilentNode}
 use Rattle.run_trace.specs.Kinds.{AreKindsOf}

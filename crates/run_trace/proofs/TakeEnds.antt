@@ -4,19 +4,19 @@ use Rattle.std.specs.Prelude.{is_some}
 use Rattle.std.specs.Option.{option_map}
 use Rattle.block_layout.specs.Layout.{Shape, blocks, home}
 use Rattle.block_layout.specs.Update.{changed}
-use Rattle.home_directory.specs.dsm_messages.declared.messages.Message.{Message}
-use Rattle.home_directory.specs.dsm_messages.declared.messages.Message.TheVariants.{Read, Write, FwdRead, FwdWrite, Inval, Data, Grant, Ack, Done, Bye}
+use Rattle.replay.specs.node_model.home_directory.dsm_messages.declared.messages.Message.{Message}
+use Rattle.replay.specs.node_model.home_directory.dsm_messages.declared.messages.Message.TheVariants.{Read, Write, FwdRead, FwdWrite, Inval, Data, Grant, Ack, Done, Bye}
 use Rattle.buf_pool.specs.Pool.{Buffer}
-use Rattle.home_directory.specs.dsm_messages.declared.messages.Need.{Need}
-use Rattle.home_directory.specs.dsm_messages.declared.messages.Need.TheVariants.{Read as reading, Write as writing}
-use Rattle.home_directory.specs.dsm_messages.declared.messages.Post.{Post}
-use Rattle.home_directory.specs.dsm_messages.Headers.{header_of, sent_by}
-use Rattle.home_directory.specs.Table.{HomeRow, NodeRow, ask_row, done_row, node_row}
-use Rattle.node_model.specs.miss_handlers.Effects.{block_facts}
-use Rattle.node_model.specs.miss_handlers.Rows.{AtHome, AtNode, row_of, ask_row_of, node_row_of, home_of, at_home, at_node}
-use Rattle.node_model.specs.declared.NodeCounts.{NodeCounts}
-use Rattle.node_model.specs.Node.{Work, Node, Phase, Running, Resumed, Waiting, Ended, Tally, Nothing_counted, FalseMiss, FallsBack, counts_after, end_of}
-use Rattle.node_model.specs.Turns.{Turn, block_at, holding, by_row_or, handled, has_no_wait, resumed, count_row, is_ended}
+use Rattle.replay.specs.node_model.home_directory.dsm_messages.declared.messages.Need.{Need}
+use Rattle.replay.specs.node_model.home_directory.dsm_messages.declared.messages.Need.TheVariants.{Read as reading, Write as writing}
+use Rattle.replay.specs.node_model.home_directory.dsm_messages.declared.messages.Post.{Post}
+use Rattle.replay.specs.node_model.home_directory.dsm_messages.Headers.{header_of, sent_by}
+use Rattle.replay.specs.node_model.home_directory.Table.{HomeRow, NodeRow, ask_row, done_row, node_row}
+use Rattle.replay.specs.node_model.miss_handlers.Effects.{block_facts}
+use Rattle.replay.specs.node_model.miss_handlers.Rows.{AtHome, AtNode, row_of, ask_row_of, node_row_of, home_of, at_home, at_node}
+use Rattle.replay.specs.node_model.declared.NodeCounts.{NodeCounts}
+use Rattle.replay.specs.node_model.Node.{Work, Node, Phase, Running, Resumed, Waiting, Ended, Tally, Nothing_counted, FalseMiss, FallsBack, counts_after, end_of}
+use Rattle.replay.specs.node_model.Turns.{Turn, block_at, holding, by_row_or, handled, has_no_wait, resumed, count_row, is_ended}
 use Rattle.replay.specs.node_machine.Wanted.{state_at}
 use Rattle.run_trace.specs.Traced.{state_if, ends_anew}
 use Rattle.run_trace.specs.Taking.{has_items, answered_in, counted_in, view_of, view_in, sight_of, is_apart, is_other, is_changed}
@@ -156,8 +156,7 @@ module _ (work : Work) (n m : Node) (like : HasSame n m) where
   home_flag b row h =
       let u = (by_row_or work.layout m (Some (AtHome b row))).node in
       let here : u.entry b ≡ row.home.entry = rw (eq-eqb b b refl) refl in
-      ⊎_elim (λ e. by_sends (any row.sends) n u b e)
-      (λ x. ⊎_elim
+      ⊎_elim (λ e. by_sends (any row.sends) n u b e) (λ x. ⊎_elim
       (λ (e : row.home.occupancy ≡ m.occupancy + 1). by_occupancy (any row.sends) n u b (e ∙ ap (λ k. k + 1) like.occupancy))
       (λ (e : (is_some (m.entry b).busy ≡ true) × (is_some row.home.entry.busy ≡ false)). by_busy (any row.sends) n u b
       ((λ t. is_some (sym like.entry t b).busy) ∙ e.0) (ap (λ z. is_some z.busy) here ∙ e.1)) x) h
@@ -167,8 +166,7 @@ module _ (work : Work) (n m : Node) (like : HasSame n m) where
   node_flag b row h =
       let u = (by_row_or work.layout m (Some (AtNode b row))).node in
       let here : u.wait b ≡ row.block.wait = rw (eq-eqb b b refl) refl in
-      ⊎_elim (λ e. by_sends (any row.sends) n u b e)
-      (λ x. ⊎_elim
+      ⊎_elim (λ e. by_sends (any row.sends) n u b e) (λ x. ⊎_elim
       (λ (e : (answered_in (m.wait b) ≡ false) × (answered_in row.block.wait ≡ true)). by_answer (any row.sends) n u b
       ((λ t. answered_in (sym like.wait t b)) ∙ e.0) (ap answered_in here ∙ e.1))
       (λ (e : counted_in row.block.wait ≡ counted_in (m.wait b) + 1). by_count (any row.sends) n u b

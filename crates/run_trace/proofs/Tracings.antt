@@ -3,19 +3,19 @@ use Rattle.std.proofs.Common.{◌≡◌, ℕ, List, [], ◌∷◌, ◌++◌, map
 use Rattle.std.specs.Prelude.{option_to_list}
 use Rattle.std.specs.Option.{option_map}
 use Rattle.templates.specs.declared.plans.PlanEntry.{PlanEntry}
-use Rattle.home_directory.specs.dsm_messages.declared.messages.Wire.{Wire}
-use Rattle.node_model.specs.Node.{Work, Node}
-use Rattle.node_model.specs.Core.{Core, Event, Exec, Take, May, AreAlike, opening_core, event_step, take_first, after}
+use Rattle.replay.specs.node_model.home_directory.dsm_messages.declared.messages.Wire.{Wire}
+use Rattle.replay.specs.node_model.Node.{Work, Node}
+use Rattle.replay.specs.node_model.Core.{Core, Event, Exec, Take, May, AreAlike, opening_core, event_step, take_first, after}
 use Rattle.replay.specs.run_order.OwnRun.{Stamped, maker, node_of, run_of}
 use Rattle.replay.specs.dsm_core.CoreParts.{core_of}
-use Rattle.replay.specs.node_machine.word_visits.declared.visits.Visits.{Visits}
-use Rattle.replay.specs.node_machine.word_visits.VisitTables.{AreVisitsIn, visits_of}
+use Rattle.word_visits.specs.declared.visits.Visits.{Visits}
+use Rattle.word_visits.specs.VisitTables.{AreVisitsIn, visits_of}
 use Rattle.replay.specs.Told.{Told, what_told, events_told}
 use Rattle.replay.specs.Way.{HasMade, HasMadeWord, core_in}
 use Rattle.replay.proofs.Way.{event_alike}
 use Rattle.run_trace.specs.declared.tracer.Tracer.{Tracer}
 use Rattle.run_trace.specs.declared.traced.Traced.{Traced as Stored}
-use Rattle.node_model.specs.Turns.{word_turn, take_turn}
+use Rattle.replay.specs.node_model.Turns.{word_turn, take_turn}
 use Rattle.run_trace.specs.Traced.{Traced, What, Word, Taken, OfWord, OfTake, what_at, traced_at, first_traced, word_traced, take_traced}
 use Rattle.run_trace.specs.Trace.{trace_from, trace_of}
 use Rattle.run_trace.specs.Given.{traced_of}
@@ -115,8 +115,7 @@ traced_after t u seen x told h made may did same =
       before = h.before ++ told ∷ [];
       made = made;
       kinds = kinds_same t u h.kinds same;
-      seen_is = ap (λ l. l ++ x ∷ []) h.seen_is
-          ∙ sym (trace_one work plan h.before told x is)
+      seen_is = ap (λ l. l ++ x ∷ []) h.seen_is ∙ sym (trace_one work plan h.before told x is)
           ∙ ap₂ (λ w p. trace_of w p (h.before ++ told ∷ [])) (sym same.work) (sym same.plan);
     }
 

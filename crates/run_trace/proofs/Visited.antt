@@ -6,21 +6,21 @@ use Rattle.std.specs.Option.{option_map_or}
 use Rattle.std.proofs.lemmas.Bool.{cases_eq}
 use Rattle.std.proofs.lemmas.List.{get_or-set_same, get_or-set_other}
 use Rattle.std.proofs.lemmas.List.Elements.{All-nil, All-cons}
-use Rattle.rv32_step.specs.OneMemory.{Access, Nothing, Reads, Writes, WritesIf, Exchanges, value_read}
+use Rattle.replay.specs.node_model.rv32_step.OneMemory.{Access, Nothing, Reads, Writes, WritesIf, Exchanges, value_read}
 use Rattle.templates.specs.Commits.{commit_at}
 use Rattle.templates.specs.Sequences.{flag_word}
 use Rattle.templates.specs.declared.commits.CommitKind.{CommitKind}
 use Rattle.templates.specs.declared.commits.CommitKind.TheVariants.{Never, Always, IfNotFlag, IfNoWait}
 use Rattle.templates.specs.declared.plans.PlanEntry.{PlanEntry}
-use Rattle.node_model.specs.jump_map.Image.{Cell, address_of_word}
-use Rattle.node_model.specs.jump_map.Maps.{old_of}
-use Rattle.node_model.specs.Node.{Node, Work, WordOutcome, standing_of, word_outcome}
-use Rattle.node_model.specs.Turns.{word_turn}
-use Rattle.node_model.specs.Core.{AreAlike, Core, Exec, May, may_execute, event_step}
+use Rattle.replay.specs.node_model.jump_map.Image.{Cell, address_of_word}
+use Rattle.replay.specs.node_model.jump_map.Maps.{old_of}
+use Rattle.replay.specs.node_model.Node.{Node, Work, WordOutcome, standing_of, word_outcome}
+use Rattle.replay.specs.node_model.Turns.{word_turn}
+use Rattle.replay.specs.node_model.Core.{AreAlike, Core, Exec, May, may_execute, event_step}
 use Rattle.replay.specs.rewriting_law.CoreRun.{commits}
-use Rattle.replay.specs.node_machine.word_visits.declared.visits.Visits.{Visits}
-use Rattle.replay.specs.node_machine.word_visits.Visits.{AreCounted, Counts, WordVisits, never, next_number, reads_other, visited, visits_at}
-use Rattle.replay.specs.node_machine.word_visits.VisitTables.{AreVisitsIn, StayVisits, visits_of}
+use Rattle.word_visits.specs.declared.visits.Visits.{Visits}
+use Rattle.word_visits.specs.Visits.{AreCounted, Counts, WordVisits, never, next_number, reads_other, visited, visits_at}
+use Rattle.word_visits.specs.VisitTables.{AreVisitsIn, StayVisits, visits_of}
 use Rattle.replay.specs.dsm_core.CoreWords.{GoesOnBy}
 use Rattle.replay.specs.Way.{IsSilent}
 use Rattle.run_trace.specs.declared.kinds.CommitKinds.{CommitKinds}
@@ -44,8 +44,7 @@ first_at (x ∷ xs) (suc k) = first_at xs k
 
 first_look : (kinds : CommitKinds) (vs : List WordVisits) → vs ≡ map first_visits kinds.kinds.items
     → LookByKind kinds vs
-first_look kinds vs is =
-    λ k. ap (λ xs. (visits_at xs k).looks) is ∙ first_at kinds.kinds.items k
+first_look kinds vs is = λ k. ap (λ xs. (visits_at xs k).looks) is ∙ first_at kinds.kinds.items k
 
 pub first_are : {E : Type 0} (t : Tracer) (image : List Cell) (r : Result Visits E) → image ≡ (work_traced t).image
     → IfOk r (λ v. visits_of v ≡ map first_visits t.kinds.kinds.items) → IfOk r (AreVisitsIn image)
@@ -86,8 +85,7 @@ look_still work kinds (suc k) n vs ws counted look =
     (look_kept kinds vs (next_number n) counted.0.within look)
 
 pub visits_still : (t u : Tracer) (k : ℕ) (n : Node) (v w : Visits) → IsSame t u → AreVisitsOf t v
-    → StayVisits v w → AreCounted (work_traced t) k n (visits_of v) (visits_of w)
-    → AreVisitsOf u w
+    → StayVisits v w → AreCounted (work_traced t) k n (visits_of v) (visits_of w) → AreVisitsOf u w
 visits_still t u k n v w same are stay counted = record {
   micros = subst (λ (work : Work). AreVisitsIn work.image w) (sym same.work)
       (stay (work_traced t).image are.micros);

@@ -1,8 +1,8 @@
 -- What is traced so far goes on to the trace of the whole run.
 use Rattle.std.proofs.Common.{◌≡◌, List, ◌++◌, map, sym, ap, ◌∙◌}
 use Rattle.templates.specs.declared.plans.PlanEntry.{PlanEntry}
-use Rattle.node_model.specs.Node.{Work}
-use Rattle.node_model.specs.Core.{opening_core, after}
+use Rattle.replay.specs.node_model.Node.{Work}
+use Rattle.replay.specs.node_model.Core.{opening_core, after}
 use Rattle.replay.specs.run_record.declared.Record.{Record}
 use Rattle.replay.specs.Told.{Told, AreToldBy, what_told, events_told}
 use Rattle.run_trace.specs.declared.tracer.Tracer.{Tracer}

@@ -7,25 +7,25 @@ use Rattle.std.proofs.Math.Seq.{take-append_seam}
 use Rattle.block_layout.specs.Layout.{Shape}
 use Rattle.buf_pool.specs.Pool.{empty_buffer}
 use Rattle.rv32_program.specs.declared.End.TheVariants.{Stopped}
-use Rattle.rv32_step.specs.OneMemory.{Access, Nothing, Reads, Writes, WritesIf, Exchanges, value_read}
+use Rattle.replay.specs.node_model.rv32_step.OneMemory.{Access, Nothing, Reads, Writes, WritesIf, Exchanges, value_read}
 use Rattle.templates.specs.declared.commits.CommitKind.{CommitKind}
 use Rattle.templates.specs.declared.commits.CommitKind.TheVariants.{Never, Always, IfNotFlag, IfNoWait}
 use Rattle.templates.specs.declared.plans.PlanEntry.{PlanEntry}
 use Rattle.templates.specs.Sequences.{flag_word}
 use Rattle.state_table.specs.declared.State.{State}
 use Rattle.state_table.specs.StateByte.{can_read}
-use Rattle.home_directory.specs.dsm_messages.declared.messages.Need.{Need}
-use Rattle.home_directory.specs.dsm_messages.declared.messages.Need.TheVariants as need_by
-use Rattle.home_directory.specs.dsm_messages.declared.messages.Post.{Post}
-use Rattle.home_directory.specs.dsm_messages.Headers.{sent_by}
-use Rattle.home_directory.specs.dsm_messages.declared.messages.Message.TheVariants.{Bye}
-use Rattle.home_directory.specs.Home.{post}
-use Rattle.home_directory.specs.Table.{Miss, want_row}
-use Rattle.node_model.specs.miss_handlers.Effects.{block_facts}
-use Rattle.node_model.specs.declared.NodeCounts.{NodeCounts}
-use Rattle.node_model.specs.Node.{Work, Node, Want, Move, Next, Again, To, Enters, Waits, Leaves, Phase, Running, Resumed, Waiting, Ended, WordOutcome, word_outcome, phase_after, end_of, is_at_poll, standing_in, has_all_byes, counts_after}
-use Rattle.node_model.specs.declared.Standing.TheVariants as standing
-use Rattle.node_model.specs.Turns.{Turn, block_at, want_in, want_all, with_miss, with_byes, byes_to, is_ended, count_want, wants_of, each_block_once, after_word, after_wants, word_turn}
+use Rattle.replay.specs.node_model.home_directory.dsm_messages.declared.messages.Need.{Need}
+use Rattle.replay.specs.node_model.home_directory.dsm_messages.declared.messages.Need.TheVariants as need_by
+use Rattle.replay.specs.node_model.home_directory.dsm_messages.declared.messages.Post.{Post}
+use Rattle.replay.specs.node_model.home_directory.dsm_messages.Headers.{sent_by}
+use Rattle.replay.specs.node_model.home_directory.dsm_messages.declared.messages.Message.TheVariants.{Bye}
+use Rattle.replay.specs.node_model.home_directory.Home.{post}
+use Rattle.replay.specs.node_model.home_directory.Table.{Miss, want_row}
+use Rattle.replay.specs.node_model.miss_handlers.Effects.{block_facts}
+use Rattle.replay.specs.node_model.declared.NodeCounts.{NodeCounts}
+use Rattle.replay.specs.node_model.Node.{Work, Node, Want, Move, Next, Again, To, Enters, Waits, Leaves, Phase, Running, Resumed, Waiting, Ended, WordOutcome, word_outcome, phase_after, end_of, is_at_poll, standing_in, has_all_byes, counts_after}
+use Rattle.replay.specs.node_model.declared.Standing.TheVariants as standing
+use Rattle.replay.specs.node_model.Turns.{Turn, block_at, want_in, want_all, with_miss, with_byes, byes_to, is_ended, count_want, wants_of, each_block_once, after_word, after_wants, word_turn}
 use Rattle.replay.specs.rewriting_law.CoreRun.{is_exit, is_wait, commits_by}
 use Rattle.replay.specs.node_machine.Wanted.{block_with, wants_of_word}
 use Rattle.replay.specs.node_machine.declared.wanted.Wanted.{Wanted}

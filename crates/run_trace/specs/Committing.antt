@@ -2,10 +2,10 @@
 use Rattle.std.specs.Prelude.{◌≡◌, true, List}
 use Rattle.templates.specs.Commits.{commit_at}
 use Rattle.templates.specs.declared.plans.PlanEntry.{PlanEntry}
-use Rattle.node_model.specs.jump_map.Maps.{old_of}
-use Rattle.node_model.specs.Node.{Work, Node, standing_of, word_outcome}
-use Rattle.node_model.specs.Turns.{silent, word_turn}
-use Rattle.node_model.specs.Core.{may_execute}
+use Rattle.replay.specs.node_model.jump_map.Maps.{old_of}
+use Rattle.replay.specs.node_model.Node.{Work, Node, standing_of, word_outcome}
+use Rattle.replay.specs.node_model.Turns.{silent, word_turn}
+use Rattle.replay.specs.node_model.Core.{may_execute}
 use Rattle.run_trace.specs.declared.committing.CommitSight.{CommitSight}
 use Rattle.run_trace.specs.Looks.{IsReach}
 

@@ -1,5 +1,5 @@
 -- Helps the code alone: what the code has of an event, as the definitions have it.
-use Rattle.node_model.specs.Node.{Tally, Nothing_counted, FalseMiss, FallsBack}
+use Rattle.replay.specs.node_model.Node.{Tally, Nothing_counted, FalseMiss, FallsBack}
 use Rattle.replay.specs.node_machine.Wanted.{wanted_in}
 use Rattle.run_trace.specs.declared.traced.Tallied.{Tallied}
 use Rattle.run_trace.specs.declared.traced.Tallied.TheVariants as tallied

@@ -6,8 +6,8 @@ use Rattle.templates.specs.Commits.{commit_at}
 use Rattle.templates.specs.declared.commits.CommitKind.{CommitKind}
 use Rattle.templates.specs.declared.commits.CommitKind.TheVariants.{Never}
 use Rattle.templates.specs.declared.plans.PlanEntry.{PlanEntry}
-use Rattle.node_model.specs.jump_map.Image.{Cell}
-use Rattle.node_model.specs.jump_map.Maps.{index_of, old_of}
+use Rattle.replay.specs.node_model.jump_map.Image.{Cell}
+use Rattle.replay.specs.node_model.jump_map.Maps.{index_of, old_of}
 use Rattle.run_trace.specs.declared.kinds.CommitKinds.{CommitKinds}
 
 -- the kind of the word at an address, by those of the words in order

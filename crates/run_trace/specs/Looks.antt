@@ -1,7 +1,7 @@
 -- Helps the code alone: what is seen of a word before and after it.
 use Rattle.std.specs.Prelude.{◌≡◌, ℕ, List, Bool, true, false, not, ◌==◌, Option, None, Some, option_and_then, map}
 use Rattle.std.specs.Option.{option_map, option_map_or}
-use Rattle.rv32_step.specs.OneMemory.{Access, Nothing, Reads, Writes, WritesIf, Exchanges}
+use Rattle.replay.specs.node_model.rv32_step.OneMemory.{Access, Nothing, Reads, Writes, WritesIf, Exchanges}
 use Rattle.rv32_program.specs.declared.End.{End}
 use Rattle.rv32_program.specs.declared.End.TheVariants.{Exited}
 use Rattle.templates.specs.declared.commits.CommitKind.{CommitKind}
@@ -9,13 +9,13 @@ use Rattle.templates.specs.declared.commits.CommitKind.TheVariants.{Never, Alway
 use Rattle.templates.specs.declared.plans.PlanEntry.{PlanEntry}
 use Rattle.templates.specs.Commits.{commit_at}
 use Rattle.templates.specs.Sequences.{flag_word}
-use Rattle.node_model.specs.jump_map.Maps.{old_of}
+use Rattle.replay.specs.node_model.jump_map.Maps.{old_of}
 use Rattle.block_layout.specs.Layout.{Shape}
-use Rattle.home_directory.specs.dsm_messages.Headers.{sent_by}
-use Rattle.node_model.specs.declared.Standing.{Standing}
-use Rattle.node_model.specs.declared.Standing.TheVariants as standing
-use Rattle.node_model.specs.Node.{Work, Node, WordOutcome, word_outcome}
-use Rattle.node_model.specs.Turns.{word_turn}
+use Rattle.replay.specs.node_model.home_directory.dsm_messages.Headers.{sent_by}
+use Rattle.replay.specs.node_model.declared.Standing.{Standing}
+use Rattle.replay.specs.node_model.declared.Standing.TheVariants as standing
+use Rattle.replay.specs.node_model.Node.{Work, Node, WordOutcome, word_outcome}
+use Rattle.replay.specs.node_model.Turns.{word_turn}
 use Rattle.replay.specs.node_machine.declared.node_state.NodeState.{NodeState}
 use Rattle.replay.specs.node_machine.NodeState.{work_of, node_of}
 use Rattle.replay.specs.node_machine.Wanted.{block_with, wanted_in, wants_of_word}

@@ -1,7 +1,7 @@
 -- Words that are passed: all that they do is to compute, or to access memory.
 use Rattle.std.specs.Prelude.{◌≡◌, Bool, true, false, List, [], ◌++◌, All, Option, None, Some, option_to_list}
 use Rattle.std.specs.Option.{option_map, option_map_or}
-use Rattle.node_model.specs.Node.{Nothing_counted}
+use Rattle.replay.specs.node_model.Node.{Nothing_counted}
 use Rattle.replay.specs.node_machine.declared.touch.Touch.{Touch}
 use Rattle.replay.specs.node_machine.declared.touch.Touch.TheVariants as touch
 use Rattle.run_trace.specs.declared.passed.Until.{Until}
@@ -65,7 +65,7 @@ passed_of w = record {
   });
 }
 
--- words were passed, and behind them perhaps one that ends the pass
+-- words were passed, and after them perhaps one that ends the pass
 pub record HasPassedOn (u : Until) (t : Tracer) (seen : List Traced) (last : Option WordPassed)
     : Type 0 where
   pub more : List Traced
@@ -79,7 +79,7 @@ ending until.Access (touch.Reads kind a) = Some (touch.Reads kind a)
 ending until.Write (touch.Reads kind a) = None
 ending u (touch.Writes width a) = Some (touch.Writes width a)
 
--- the word behind which a stretch was stopped, if it ended the pass
+-- the word after which a stretch was stopped, if it ended the pass
 abbrev pub word_ended : StretchEnd → Option WordPassed
 word_ended (Ended w) = Some w
 word_ended stop = None

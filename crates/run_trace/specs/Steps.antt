@@ -1,10 +1,10 @@
 -- How many steps of the original a core run stands for.
 use Rattle.std.specs.Prelude.{ℕ, Bool, true, false, List}
 use Rattle.std.specs.List.{count_by}
-use Rattle.rv32_step.specs.OneMemory.{Pick, Step, Break}
+use Rattle.replay.specs.node_model.rv32_step.OneMemory.{Pick, Step, Break}
 use Rattle.templates.specs.declared.plans.PlanEntry.{PlanEntry}
-use Rattle.node_model.specs.Node.{Work}
-use Rattle.node_model.specs.Core.{Core, Event}
+use Rattle.replay.specs.node_model.Node.{Work}
+use Rattle.replay.specs.node_model.Core.{Core, Event}
 use Rattle.replay.specs.rewriting_law.CoreRun.{picks_of}
 
 -- a pick is a step of the original

@@ -2,9 +2,9 @@
 use Rattle.std.specs.Prelude.{ℕ, ◌==◌, if◌then◌else◌, List, [], ◌∷◌, map, length}
 use Rattle.std.specs.List.{range_with_len}
 use Rattle.std.specs.Option.{option_map_or}
-use Rattle.node_model.specs.declared.NodeCounts.{NodeCounts}
-use Rattle.node_model.specs.Node.{no_counts, counts_after}
-use Rattle.node_model.specs.Turns.{count_want, count_row}
+use Rattle.replay.specs.node_model.declared.NodeCounts.{NodeCounts}
+use Rattle.replay.specs.node_model.Node.{no_counts, counts_after}
+use Rattle.replay.specs.node_model.Turns.{count_want, count_row}
 use Rattle.replay.specs.node_machine.declared.wanted.Wanted.{Wanted}
 use Rattle.run_trace.specs.Traced.{Traced, What, Word, Taken}
 

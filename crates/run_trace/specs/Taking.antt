@@ -2,11 +2,11 @@
 use Rattle.std.specs.Prelude.{◌≡◌, ℕ, Bool, true, false, not, ◌||◌, ◌==◌, nat_lt, if◌then◌else◌, List, [], ◌∷◌, Option, None, Some, is_some, map, option_and_then}
 use Rattle.std.specs.Borrow.{Bor}
 use Rattle.block_layout.specs.Layout.{Shape, blocks}
-use Rattle.home_directory.specs.dsm_messages.declared.messages.Wire.{Wire}
-use Rattle.home_directory.specs.declared.wait.Wait.{Wait}
-use Rattle.home_directory.specs.dsm_messages.Headers.{header_of, sent_by}
-use Rattle.node_model.specs.Node.{Work, Node, end_of}
-use Rattle.node_model.specs.Turns.{block_at, take_turn}
+use Rattle.replay.specs.node_model.home_directory.dsm_messages.declared.messages.Wire.{Wire}
+use Rattle.replay.specs.node_model.home_directory.declared.wait.Wait.{Wait}
+use Rattle.replay.specs.node_model.home_directory.dsm_messages.Headers.{header_of, sent_by}
+use Rattle.replay.specs.node_model.Node.{Work, Node, end_of}
+use Rattle.replay.specs.node_model.Turns.{block_at, take_turn}
 use Rattle.replay.specs.dsm_core.declared.seen.Seen.{Seen}
 use Rattle.replay.specs.dsm_core.declared.seen.Incoming.{Incoming}
 use Rattle.replay.specs.dsm_core.Seen.{incoming_of}

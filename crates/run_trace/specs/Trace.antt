@@ -1,8 +1,8 @@
 -- The trace of a recorded run.
 use Rattle.std.specs.Prelude.{◌≡◌, List, [], ◌∷◌, ◌++◌, map, option_to_list}
 use Rattle.templates.specs.declared.plans.PlanEntry.{PlanEntry}
-use Rattle.node_model.specs.Node.{Work}
-use Rattle.node_model.specs.Core.{Core, event_step, opening_core}
+use Rattle.replay.specs.node_model.Node.{Work}
+use Rattle.replay.specs.node_model.Core.{Core, event_step, opening_core}
 use Rattle.replay.specs.run_order.OwnRun.{Stamped}
 use Rattle.replay.specs.run_record.declared.Record.{Record}
 use Rattle.replay.specs.Told.{Told, what_told, AreToldBy, AreMadeAs}

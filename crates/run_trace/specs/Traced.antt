@@ -3,20 +3,20 @@ use Rattle.std.specs.Prelude.{ℕ, Bool, true, false, not, ◌&&◌, nat_lt, if�
 use Rattle.std.specs.Option.{option_map, option_map_or}
 use Rattle.block_layout.specs.Layout.{Shape, blocks}
 use Rattle.rv32_program.specs.declared.End.{End}
-use Rattle.rv32_step.specs.OneMemory.{Access, Nothing, Reads, Writes, WritesIf, Exchanges}
+use Rattle.replay.specs.node_model.rv32_step.OneMemory.{Access, Nothing, Reads, Writes, WritesIf, Exchanges}
 use Rattle.state_table.specs.declared.State.{State}
-use Rattle.home_directory.specs.dsm_messages.declared.messages.Message.{Message}
-use Rattle.home_directory.specs.dsm_messages.declared.messages.Wire.{Wire}
-use Rattle.home_directory.specs.dsm_messages.declared.headers.Header.{Header}
-use Rattle.home_directory.specs.dsm_messages.declared.headers.Sent.{Sent}
-use Rattle.home_directory.specs.dsm_messages.Headers.{header_of, sent_by}
-use Rattle.node_model.specs.miss_handlers.Rows.{Row, row_of, clears}
+use Rattle.replay.specs.node_model.home_directory.dsm_messages.declared.messages.Message.{Message}
+use Rattle.replay.specs.node_model.home_directory.dsm_messages.declared.messages.Wire.{Wire}
+use Rattle.replay.specs.node_model.home_directory.dsm_messages.declared.headers.Header.{Header}
+use Rattle.replay.specs.node_model.home_directory.dsm_messages.declared.headers.Sent.{Sent}
+use Rattle.replay.specs.node_model.home_directory.dsm_messages.Headers.{header_of, sent_by}
+use Rattle.replay.specs.node_model.miss_handlers.Rows.{Row, row_of, clears}
 use Rattle.templates.specs.declared.places.Place.{Place}
 use Rattle.templates.specs.declared.plans.PlanEntry.{PlanEntry}
-use Rattle.node_model.specs.jump_map.Maps.{old_of}
-use Rattle.node_model.specs.Node.{Work, Node, Tally, Nothing_counted, Phase, Waiting, word_outcome, tally_resumed, end_of}
-use Rattle.node_model.specs.Turns.{Turn, holding, after_wants, after_message}
-use Rattle.node_model.specs.Core.{Core, Event, Exec, Take}
+use Rattle.replay.specs.node_model.jump_map.Maps.{old_of}
+use Rattle.replay.specs.node_model.Node.{Work, Node, Tally, Nothing_counted, Phase, Waiting, word_outcome, tally_resumed, end_of}
+use Rattle.replay.specs.node_model.Turns.{Turn, holding, after_wants, after_message}
+use Rattle.replay.specs.node_model.Core.{Core, Event, Exec, Take}
 use Rattle.replay.specs.node_machine.Wanted.{block_with, state_at, wants_of_word}
 use Rattle.replay.specs.node_machine.declared.wanted.Wanted.{Wanted}
 use Rattle.replay.specs.run_order.OwnRun.{Stamped, maker}

@@ -1,13 +1,13 @@
 -- A recorded run that is made once more, event by event.
 use Rattle.std.specs.Prelude.{◌≡◌, ◌<◌, ℕ, Bool, List, ◌∷◌, [], ◌++◌, replicate, Option, None, Some}
 use Rattle.templates.specs.declared.plans.PlanEntry.{PlanEntry}
-use Rattle.node_model.specs.Node.{Work}
-use Rattle.node_model.specs.Core.{Event, Exec, May}
+use Rattle.replay.specs.node_model.Node.{Work}
+use Rattle.replay.specs.node_model.Core.{Event, Exec, May}
 use Rattle.replay.specs.run_record.declared.Record.{Record}
 use Rattle.replay.specs.dsm_core.CoreParts.{work_of, core_of}
 use Rattle.replay.specs.declared.events.Replayer.{Replayer}
-use Rattle.replay.specs.node_machine.word_visits.declared.visits.Visits.{Visits}
-use Rattle.replay.specs.node_machine.word_visits.VisitTables.{AreVisitsIn, visits_of}
+use Rattle.word_visits.specs.declared.visits.Visits.{Visits}
+use Rattle.word_visits.specs.VisitTables.{AreVisitsIn, visits_of}
 use Rattle.replay.specs.Told.{Told, events_told}
 use Rattle.replay.specs.Way.{HasMade, core_in, record_in, events_left}
 use Rattle.run_trace.specs.declared.kinds.CommitKinds.{CommitKinds}
@@ -86,7 +86,7 @@ abbrev pub HasTracedIfSilent : (old new : Tracer) → List Traced → (node : �
 HasTracedIfSilent old new seen node None = HasTraced new seen
 HasTracedIfSilent old new seen node (Some commits) = HasTracedSilent old new seen node commits
 
--- these events were made behind those that were told of before
+-- these events were made after those that were told of before
 pub record HasTracedMore (new : Tracer) (seen : List Traced) (before : List Told)
     (events : List Event) : Type 0 where
   pub told : List Told

@@ -3,11 +3,11 @@ use Rattle.std.specs.Prelude.{◌≡◌, ℕ, zero, suc, Bool, true, false, List
 use Rattle.templates.specs.declared.commits.CommitKind.{CommitKind}
 use Rattle.templates.specs.declared.commits.CommitKind.TheVariants.{Never, IfNotFlag}
 use Rattle.templates.specs.declared.plans.PlanEntry.{PlanEntry}
-use Rattle.node_model.specs.Node.{Work}
-use Rattle.node_model.specs.Core.{Core, Exec, event_step}
+use Rattle.replay.specs.node_model.Node.{Work}
+use Rattle.replay.specs.node_model.Core.{Core, Exec, event_step}
 use Rattle.replay.specs.rewriting_law.CoreRun.{commits}
-use Rattle.replay.specs.node_machine.word_visits.Tallies.{WordTally}
-use Rattle.replay.specs.node_machine.word_visits.Visits.{WordVisits, next_number, visits_at}
+use Rattle.word_visits.specs.Tallies.{WordTally}
+use Rattle.word_visits.specs.Visits.{WordVisits, next_number, visits_at}
 use Rattle.run_trace.specs.declared.kinds.CommitKinds.{CommitKinds}
 
 -- whether a word of this kind commits depends on what it reads

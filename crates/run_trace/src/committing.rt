@@ -2,8 +2,8 @@
 
 ghost use Rattle.std.specs.Prelude.{◌≡◌, List, IfSome};
 ghost use Rattle.templates.specs.declared.plans.PlanEntry.{PlanEntry};
-ghost use Rattle.node_model.specs.Node.{Node as OfNode};
-ghost use Rattle.node_model.specs.Turns.{word_turn};
+ghost use Rattle.replay.specs.node_model.Node.{Node as OfNode};
+ghost use Rattle.replay.specs.node_model.Turns.{word_turn};
 ghost use Rattle.replay.specs.node_machine.NodeState.{work_of, node_of};
 ghost use Rattle.replay.specs.rewriting_law.CoreRun.{commits};
 ghost use Rattle.run_trace.specs.Committing.{IsCommitSight, IsSilentNode};
@@ -35,7 +35,7 @@ pub fn commit_sight(node: &Node<'_>, kinds: &CommitKinds) -> CommitSight
 }
 
 /// Whether a word has committed a step of the original, by what was seen before it, what it
-/// printed, and its node behind it.
+/// printed, and its node after it.
 pub fn has_committed(sight: CommitSight, printed: Option<u8>, node: &Node<'_>) -> bool
     ensures { (plan : List PlanEntry) (n : OfNode)
         → IsCommitSight (work_of node.now) plan n sight

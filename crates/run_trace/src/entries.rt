@@ -103,7 +103,7 @@ impl Entries {
         }
     }
 
-    /// The entry of which a place's word is one.
+    /// The entry that a place's word belongs to.
     fn entry(&self, plan: &Plan, place: Place) -> Option<PlanEntry>
         requires entries { AreEntriesOf plan.now self.now }
         ensures { result ≡ find (is_word_of place) plan.now }

@@ -4,18 +4,18 @@ ghost use Rattle.std.specs.Prelude.{◌≡◌, IfOk, map};
 ghost use Rattle.rv32_program.specs.Program.{Program};
 ghost use Rattle.templates.specs.Code.{HasCode};
 ghost use Rattle.templates.specs.Commits.{commit_at};
-ghost use Rattle.node_model.specs.jump_map.Maps.{old_of};
+ghost use Rattle.replay.specs.node_model.jump_map.Maps.{old_of};
 ghost use Rattle.run_trace.specs.Kinds.{AreKindsOf, kind_in};
-ghost use Rattle.replay.specs.node_machine.word_visits.TallyTables.{AreTalliesIn, tallies_of};
-ghost use Rattle.replay.specs.node_machine.word_visits.VisitTables.{AreVisitsIn, visits_of};
+ghost use Rattle.word_visits.specs.TallyTables.{AreTalliesIn, tallies_of};
+ghost use Rattle.word_visits.specs.VisitTables.{AreVisitsIn, visits_of};
 ghost use Rattle.run_trace.specs.Visited.{AreTalliesOf, asks, commits_visited, first_visits};
 ghost use Rattle.run_trace.specs.Visited.{may_commit};
 
 use crate::entries::Entries;
-use node_model::jump_map::{IMAGE_BASE, Image};
-use replay::node_machine::{Tallies, Visits};
+use replay::node_model::jump_map::{IMAGE_BASE, Image};
 use std::alloc::{AllocError, Global};
 use templates::{Code, CommitKind, Plan};
+use word_visits::{Tallies, Visits};
 
 /// When each word of rewritten code commits, by its number.
 #[derive(Drop)]
@@ -43,7 +43,7 @@ impl CommitKinds {
         Ok(CommitKinds { kinds })
     }
 
-    /// The visits of all words of an image, of which none was executed yet.
+    /// The visits of all words of an image, where none was executed yet.
     pub(crate) fn no_visits(&self, alloc: Global, image: &Image) -> Result<Visits, AllocError>
         ensures value { IfOk result
             (λ visits. visits_of visits ≡ map first_visits self.now.kinds.items) }

@@ -1,8 +1,8 @@
 //! What holds of every trace.
 
 ghost use Rattle.std.specs.Prelude.{◌≡◌, List};
-ghost use Rattle.node_model.specs.Node.{Work};
-ghost use Rattle.node_model.specs.Outcome.{counts_after};
+ghost use Rattle.replay.specs.node_model.Node.{Work};
+ghost use Rattle.replay.specs.node_model.Outcome.{counts_after};
 ghost use Rattle.replay.specs.Told.{Told, events_told};
 ghost use Rattle.replay.specs.run_record.declared.Record.{Record as Kept};
 ghost use Rattle.templates.specs.declared.plans.PlanEntry.{PlanEntry};

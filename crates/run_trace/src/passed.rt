@@ -1,7 +1,7 @@
 //! Words that a trace passes: all that they do is to access memory.
 
 ghost use Rattle.std.specs.Prelude.{◌≡◌};
-ghost use Rattle.node_model.specs.Node.{word_outcome};
+ghost use Rattle.replay.specs.node_model.Node.{word_outcome};
 ghost use Rattle.replay.specs.node_machine.NodeState.{work_of, node_of};
 ghost use Rattle.replay.specs.node_machine.Touch.{IsTouch};
 ghost use Rattle.run_trace.specs.Looks.{access_seen};
@@ -13,7 +13,7 @@ use replay::node_machine::{Node, Touch};
 use templates::Place;
 
 /// Which words end a pass.
-#[derive(Clone, Copy, Debug, PartialEq, Eq)]
+#[derive(Clone, Copy, PartialEq, Eq)]
 pub enum Until {
     /// Those that access memory.
     Access,

@@ -2,20 +2,20 @@
 
 ghost use Rattle.std.specs.Prelude.{◌≡◌, ℕ};
 ghost use Rattle.rv32_program.specs.Program.{Program};
-ghost use Rattle.node_model.specs.Node as model;
+ghost use Rattle.replay.specs.node_model.Node as model;
 ghost use Rattle.replay.specs.node_machine.NodeState.{work_of, node_of};
-ghost use Rattle.rv32_step.specs.declared.Demand.TheVariants.{Loads, Stores, StoresIf, Updates};
-ghost use Rattle.rv32_step.specs.declared.Demand.TheVariants.{Reserves};
+ghost use Rattle.replay.specs.node_model.rv32_step.declared.Demand.TheVariants.{Loads, Stores, StoresIf, Updates};
+ghost use Rattle.replay.specs.node_model.rv32_step.declared.Demand.TheVariants.{Reserves};
 ghost use Rattle.rv32_decode.specs.declared.AmoOp.{AmoOp};
 ghost use Rattle.llsc.specs.Reservation.{holds};
 ghost use Rattle.run_trace.specs.Looks.{IsReach};
 
 use crate::traced::AccessKind;
 use replay::node_machine::Node;
+use replay::node_model::rv32_step::{CallStep, Demand, call_step, demand_of};
 use runtime_words::RtWord;
 use rv32_decode::{LoadKind, Width};
 use rv32_program::addresses::MEMORY_END;
-use rv32_step::{CallStep, Demand, call_step, demand_of};
 
 /// An access of memory, and the value that it reads.
 #[derive(Clone, Copy)]

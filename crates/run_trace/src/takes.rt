@@ -3,9 +3,9 @@
 ghost use Rattle.std.specs.Prelude.{◌≡◌, ◌<◌, ◌||◌, Option};
 ghost use Rattle.std.specs.Option.{option_map};
 ghost use Rattle.block_layout.specs.Layout.{blocks};
-ghost use Rattle.home_directory.specs.dsm_messages.declared.messages.Wire.{Wire};
-ghost use Rattle.home_directory.specs.declared.wait.Wait.{Wait as OfWait};
-ghost use Rattle.node_model.specs.Node.{Work, Node as OfNode};
+ghost use Rattle.replay.specs.node_model.home_directory.dsm_messages.declared.messages.Wire.{Wire};
+ghost use Rattle.replay.specs.node_model.home_directory.declared.wait.Wait.{Wait as OfWait};
+ghost use Rattle.replay.specs.node_model.Node.{Work, Node as OfNode};
 ghost use Rattle.replay.specs.node_machine.NodeState.{work_of, node_of};
 ghost use Rattle.run_trace.specs.Given.{take_of};
 ghost use Rattle.run_trace.specs.Looks.{waits_in};
@@ -15,10 +15,10 @@ ghost use Rattle.run_trace.specs.Traced as trace;
 use crate::traced::TakeTraced;
 use crate::words::{but_byes, tally};
 use block_layout::{Block, Layout};
-use home_directory::Wait;
-use home_directory::dsm_messages::Headers;
 use replay::dsm_core::{Incoming, Seen};
 use replay::node_machine::{Node, NodeCounts, Standing};
+use replay::node_model::home_directory::Wait;
+use replay::node_model::home_directory::dsm_messages::Headers;
 use rv32_program::End;
 use state_table::State;
 

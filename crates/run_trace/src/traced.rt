@@ -1,14 +1,14 @@
 //! What an event of a run did, as it is looked at.
 
 use block_layout::Block;
-use home_directory::dsm_messages::{Header, Headers};
 use replay::node_machine::WantedBlocks;
+use replay::node_model::home_directory::dsm_messages::{Header, Headers};
 use rv32_program::End;
 use state_table::State;
 use templates::Place;
 
 /// How a word accesses memory.
-#[derive(Clone, Copy, Debug, PartialEq, Eq)]
+#[derive(Clone, Copy, PartialEq, Eq)]
 pub enum AccessKind {
     Reads,
     Writes,
@@ -27,7 +27,7 @@ pub struct Accessed {
 }
 
 /// What an event counts beside its messages.
-#[derive(Clone, Copy, Debug, PartialEq, Eq)]
+#[derive(Clone, Copy, PartialEq, Eq)]
 pub enum Tallied {
     Nothing,
     /// A miss check for reading found a readable line.

@@ -9,13 +9,14 @@ use crate::takes::{sight_of, take_traced};
 use crate::traced::{Traced, What};
 use crate::words::{accessed_at, before_word, commits, commits_silent, place_of, word_traced};
 use block_layout::Block;
-use node_model::jump_map::Image;
 use replay::dsm_core::{Core, Event, Incoming, Work};
-use replay::node_machine::{Touch, Visits};
+use replay::node_machine::Touch;
+use replay::node_model::jump_map::Image;
 use replay::run_record::Record;
 use replay::{ReplayRefused, Replayer, WordsAhead};
 use std::alloc::{AllocError, Global};
 use templates::{Code, Plan};
+use word_visits::Visits;
 
 /// A recorded run that is made once more, event by event.
 #[derive(Drop)]
@@ -29,11 +30,11 @@ pub struct Tracer<'a> {
 /// Where the words of a stretch were stopped.
 #[derive(Clone, Copy)]
 enum StretchEnd {
-    /// Behind a word that ends the pass.
+    /// After a word that ends the pass.
     Ended(WordPassed),
     /// Before an event that does more than to access memory.
     Before,
-    /// Behind its last word.
+    /// After its last word.
     Through,
 }
 
@@ -42,11 +43,11 @@ impl<'a> Tracer<'a> {
     ghost use Rattle.std.specs.Prelude.{◌≢◌, ◌++◌, All, IfSome, option_to_list};
     ghost use Rattle.std.specs.Option.{option_map};
     ghost use Rattle.templates.specs.Code.{HasCode};
-    ghost use Rattle.node_model.specs.Core.{Exec, Take};
+    ghost use Rattle.replay.specs.node_model.Core.{Exec, Take};
     ghost use Rattle.replay.specs.rewriting_law.Bounds.{RunsRewritten};
     ghost use Rattle.replay.specs.node_machine.Touch.{IsTouch};
-    ghost use Rattle.replay.specs.node_machine.word_visits.Visits.{AreCounted};
-    ghost use Rattle.replay.specs.node_machine.word_visits.VisitTables.{visits_of};
+    ghost use Rattle.word_visits.specs.Visits.{AreCounted};
+    ghost use Rattle.word_visits.specs.VisitTables.{visits_of};
     ghost use Rattle.replay.specs.dsm_core.CoreParts.{work_in, core_of};
     ghost use Rattle.replay.specs.dsm_core.CoreWords.{HasPassedWords};
     ghost use Rattle.replay.specs.run_record.Record.{IsRecord};
@@ -155,7 +156,7 @@ impl<'a> Tracer<'a> {
         }
     }
 
-    /// The visits of all words of the run, of which none was executed yet. The image is the run's.
+    /// The visits of all words of the run, where none was executed yet. The image is the run's.
     pub fn no_visits(&self, alloc: Global, image: &Image) -> Result<Visits, AllocError>
         requires image { image.now ≡ (work_traced self.now).image }
         ensures visits { IfOk result (AreVisitsOf self.now) }

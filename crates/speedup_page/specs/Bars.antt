@@ -13,7 +13,7 @@ piece_text kind y from to =
     ++ codes "' height='18'/>\n"))))
 
 -- Words: as many as there are steps are of the original, since each step is committed by one; those
--- behind them are what checks add.
+-- after them are what checks add.
 abbrev pub words_text : (y whole words steps : ℕ) → List ℕ
 words_text y whole words steps =
     piece_text (codes "steps") y 0 (share_of 600 whole (min words steps))

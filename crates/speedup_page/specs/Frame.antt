@@ -73,8 +73,9 @@ notes =
     ++ (codes "as fast. What all nodes of a run spend is their number times the time of the run; its shares\n"
     ++ (codes "are rounded down. Each step of the original is committed by one word; checks add the\n"
     ++ (codes "others. The share of the words of the original is of all words. Where a row says stopped,\n"
-    ++ (codes "the budget stopped a processor. All times are those of a model: each word takes 1, and no\n"
-    ++ codes "way between two nodes is ever full.</p>\n"))))))
+    ++ (codes "the budget stopped a processor; where it says ebreak, illegal, misaligned, access or fetch, a\n"
+    ++ (codes "processor ended by that trap. All times are those of a model: each word takes 1, and no way\n"
+    ++ codes "between two nodes is ever full.</p>\n")))))))
 
 -- where the page ends
 unfoldable pub end : List ℕ

@@ -1,9 +1,11 @@
 -- The page.
-use Rattle.std.specs.Prelude.{ℕ, Bool, if◌then◌else◌, List, [], ◌++◌, Option, None, Some, codes}
+use Rattle.std.specs.Prelude.{ℕ, Bool, if◌then◌else◌, List, [], ◌++◌, Option, codes}
 use Rattle.speedup_page.specs.declared.page.Parameters.{Parameters}
+use Rattle.speedup_page.specs.declared.row.Base.{Base}
+use Rattle.speedup_page.specs.declared.row.Base.TheVariants.{Steps, Trapped, Stopped}
 use Rattle.speedup_page.specs.declared.row.Row.{Row}
 use Rattle.speedup_page.specs.Frame.{end, notes, style, top}
-use Rattle.speedup_page.specs.Rows.{numbered}
+use Rattle.speedup_page.specs.Rows.{numbered, steps_of, trap_name}
 use Rattle.speedup_page.specs.Chart.{chart_text}
 use Rattle.speedup_page.specs.Bars.{bars_text}
 use Rattle.speedup_page.specs.Table.{table_text}
@@ -52,13 +54,15 @@ messages_text p =
     ++ (numbered (codes " more; taking it costs ") p.handling ++ codes ".</p>\n"))
 
 -- how many steps the original makes on one processor
-abbrev pub base_text : (base : Option ℕ) → List ℕ
-base_text None = codes "<p>The original doesn't end on one processor within the budget.</p>\n"
-base_text (Some steps) =
+abbrev pub base_text : Base → List ℕ
+base_text Stopped = codes "<p>The original doesn't end on one processor within the budget.</p>\n"
+base_text (Trapped t) =
+    codes "<p>On one processor the original ends by a trap: " ++ (trap_name t ++ codes ".</p>\n")
+base_text (Steps steps) =
     numbered (codes "<p>On one processor and one memory the original makes ") steps
     ++ codes " steps.</p>\n"
 
-abbrev pub given_text : Parameters → (base : Option ℕ) → List ℕ
+abbrev pub given_text : Parameters → Base → List ℕ
 given_text p base = command_text p ++ (messages_text p ++ base_text base)
 
 -- 3. The page
@@ -68,6 +72,6 @@ body_text nodes base rows =
     chart_text nodes base rows ++ (bars_text rows ++ (table_text base rows ++ (notes ++ end)))
 
 -- of such rows
-abbrev pub page_text : Parameters → (base : Option ℕ) → List Row → List ℕ
+abbrev pub page_text : Parameters → Base → List Row → List ℕ
 page_text p base rows =
-    start_text p.nodes ++ (given_text p base ++ body_text p.nodes base rows)
+    start_text p.nodes ++ (given_text p base ++ body_text p.nodes (steps_of base) rows)

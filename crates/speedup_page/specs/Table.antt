@@ -1,17 +1,25 @@
 -- The numbers as a table.
-use Rattle.std.specs.Prelude.{ℕ, if◌then◌else◌, List, [], ◌∷◌, ◌++◌, Option, None, Some, codes}
+use Rattle.std.specs.Prelude.{ℕ, List, [], ◌∷◌, ◌++◌, Option, None, Some, codes}
+use Rattle.speedup_page.specs.declared.row.Ended.{Ended}
+use Rattle.speedup_page.specs.declared.row.Ended.TheVariants.{Whole, Trapped, Stopped}
 use Rattle.speedup_page.specs.declared.row.Row.{Row}
 use Rattle.speedup_page.specs.declared.row.Shares.{Shares}
 use Rattle.speedup_page.specs.Frame.{table}
-use Rattle.speedup_page.specs.Rows.{hundredths_text, numbered, share_of, speedup_of, whole_of}
+use Rattle.speedup_page.specs.Rows.{hundredths_text, numbered, share_of, speedup_of, trap_name, whole_of}
 
 -- a speed-up, where there is one
 abbrev pub some_text : Option ℕ → List ℕ
 some_text None = codes "none"
 some_text (Some s) = hundredths_text s
 
+-- the speed-up of a run that ended whole, or what keeps it from one
+abbrev pub ended_text : Ended → (speedup : Option ℕ) → List ℕ
+ended_text Whole s = some_text s
+ended_text (Trapped t) s = trap_name t
+ended_text Stopped s = codes "stopped"
+
 abbrev pub speedup_text : (base : Option ℕ) → Row → List ℕ
-speedup_text base r = if r.stopped then codes "stopped" else some_text (speedup_of base r)
+speedup_text base r = ended_text r.ended (speedup_of base r)
 
 -- what was spent on one thing, and how many hundredths that is of the whole
 abbrev pub cell_text : (whole part : ℕ) → List ℕ

@@ -32,7 +32,7 @@ fn push_piece(
     out.extend_from_slice(b"' height='18'/>\n")
 }
 
-/// Appends the parts of words: those of the original, and behind them those that checks add.
+/// Appends the parts of words: those of the original, and after them those that checks add.
 fn push_words(
     out: &mut Vec<u8>,
     y: u128,
@@ -50,7 +50,7 @@ fn push_words(
     push_piece(out, b"checks", y, middle, end)
 }
 
-/// Appends the parts of waits, behind what was spent before.
+/// Appends the parts of waits, after what was spent before.
 fn push_waits(
     out: &mut Vec<u8>,
     y: u128,
@@ -69,7 +69,7 @@ fn push_waits(
     push_piece(out, b"writes", y, middle, end)
 }
 
-/// Appends the parts of handling and of idle nodes, behind what was spent before.
+/// Appends the parts of handling and of idle nodes, after what was spent before.
 fn push_rest(
     out: &mut Vec<u8>,
     y: u128,

@@ -46,7 +46,7 @@ fn room_of(base: Option<u64>, rows: &[Row]) -> u128
     room
 }
 
-/// How far from the left so many nodes are, in pixels.
+/// How far from the left a number of nodes is, in pixels.
 fn across(most: NodeCount, nodes: u8) -> u128
     ensures value { result ≡ model.across most nodes }
     ensures left { 56 ≤ result }
@@ -66,7 +66,7 @@ fn down(room: u128, hundredths: u128) -> u128
     336 - (320 * hundredths / (100 * room)).min(320)
 }
 
-/// Appends a line for so many quarters of the room, with the speed-up there.
+/// Appends a line at a number of quarters of the room, with the speed-up there.
 fn push_quarter(out: &mut Vec<u8>, room: u128, quarters: u128) -> Result<(), AllocError>
     requires most { room ≤ 16 }
     requires within { quarters ≤ 4 }
@@ -92,7 +92,7 @@ fn push_grid(out: &mut Vec<u8>, room: u128) -> Result<(), AllocError>
     push_quarter(out, room, 4)
 }
 
-/// Appends the line on which so many nodes are so many times as fast, to a place.
+/// Appends the line on which n nodes are n times as fast, up to a place.
 fn push_ideal_to(out: &mut Vec<u8>, x: u128, y: u128) -> Result<(), AllocError>
     requires { 56 ≤ x }
     ensures { OnOk result (out.new.items ≡ out.old.items ++ model.ideal_to x y) }
@@ -110,7 +110,7 @@ fn push_ideal(out: &mut Vec<u8>, most: NodeCount, room: u128) -> Result<(), Allo
     requires most { room ≤ 16 }
     ensures { OnOk result (out.new.items ≡ out.old.items ++ model.ideal_text most room) }
 {
-    let end = most.number().min(room as u8);
+    let end = most.as_u8().min(room as u8);
     push_ideal_to(out, across(most, end), down(room, 100 * u128::from(end)))
 }
 

@@ -118,8 +118,9 @@ const NOTES: &str = concat!(
     "as fast. What all nodes of a run spend is their number times the time of the run; its shares\n",
     "are rounded down. Each step of the original is committed by one word; checks add the\n",
     "others. The share of the words of the original is of all words. Where a row says stopped,\n",
-    "the budget stopped a processor. All times are those of a model: each word takes 1, and no\n",
-    "way between two nodes is ever full.</p>\n",
+    "the budget stopped a processor; where it says ebreak, illegal, misaligned, access or fetch, a\n",
+    "processor ended by that trap. All times are those of a model: each word takes 1, and no way\n",
+    "between two nodes is ever full.</p>\n",
 );
 
 /// Where the page ends.

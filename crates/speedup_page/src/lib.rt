@@ -11,4 +11,4 @@ mod table;
 mod text;
 
 pub use page::{Parameters, SpeedupPage, push_page};
-pub use row::{Row, Shares};
+pub use row::{Base, Ended, Row, Shares, Trap};

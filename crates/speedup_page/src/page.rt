@@ -7,14 +7,14 @@ ghost use Rattle.speedup_page.specs.Rows.{IsFit};
 use crate::bars::push_bars;
 use crate::chart::push_chart;
 use crate::frame::{Fixed, push_fixed};
-use crate::row::Row;
+use crate::row::{Base, Row, trap_name};
 use crate::table::push_table;
 use crate::text::push_numbered;
 use run_limits::{Budget, NodeCount};
 use std::alloc::AllocError;
 
 /// What the runs of a page were asked for.
-#[derive(Clone, Copy, Debug, PartialEq, Eq)]
+#[derive(Clone, Copy, PartialEq, Eq)]
 pub struct Parameters {
     /// The most nodes.
     pub nodes: NodeCount,
@@ -38,8 +38,8 @@ pub struct Parameters {
 #[derive(Clone, Copy)]
 pub struct SpeedupPage<'a> {
     pub parameters: Parameters,
-    /// How many steps the original makes on one processor, where it ends within the budget.
-    pub base: Option<u64>,
+    /// How many steps the original makes on one processor.
+    pub base: Base,
     /// A run each.
     pub rows: &'a [Row],
 }
@@ -52,7 +52,7 @@ pub fn push_page(out: &mut Vec<u8>, page: &SpeedupPage<'_>) -> Result<(), AllocE
 {
     push_start(out, page.parameters.nodes)?;
     push_given(out, &page.parameters, page.base)?;
-    push_body(out, page.parameters.nodes, page.base, page.rows)
+    push_body(out, page.parameters.nodes, page.base.steps(), page.rows)
 }
 
 /// Appends the name of the page.
@@ -140,14 +140,19 @@ fn push_messages(out: &mut Vec<u8>, p: &Parameters) -> Result<(), AllocError>
 }
 
 /// Appends how many steps the original makes on one processor.
-fn push_base(out: &mut Vec<u8>, base: Option<u64>) -> Result<(), AllocError>
+fn push_base(out: &mut Vec<u8>, base: Base) -> Result<(), AllocError>
     ensures { OnOk result (out.new.items ≡ out.old.items ++ model.base_text base) }
 {
     match base {
-        None => out.extend_from_slice(
+        Base::Stopped => out.extend_from_slice(
             b"<p>The original doesn't end on one processor within the budget.</p>\n",
         ),
-        Some(steps) => {
+        Base::Trapped(trap) => {
+            out.extend_from_slice(b"<p>On one processor the original ends by a trap: ")?;
+            out.extend_from_slice(trap_name(trap))?;
+            out.extend_from_slice(b".</p>\n")
+        }
+        Base::Steps(steps) => {
             let text = b"<p>On one processor and one memory the original makes ";
             push_numbered(out, text, u128::from(steps))?;
             out.extend_from_slice(b" steps.</p>\n")
@@ -156,7 +161,7 @@ fn push_base(out: &mut Vec<u8>, base: Option<u64>) -> Result<(), AllocError>
 }
 
 /// Appends what the runs were asked for, and the steps of the original.
-fn push_given(out: &mut Vec<u8>, p: &Parameters, base: Option<u64>) -> Result<(), AllocError>
+fn push_given(out: &mut Vec<u8>, p: &Parameters, base: Base) -> Result<(), AllocError>
     ensures { OnOk result (out.new.items ≡ out.old.items ++ model.given_text p.now base) }
 {
     push_command(out, p)?;

@@ -5,7 +5,7 @@ ghost use Rattle.speedup_page.specs.Table as model;
 ghost use Rattle.speedup_page.specs.Rows.{IsFit, whole_of};
 
 use crate::frame::{Fixed, push_fixed};
-use crate::row::{Row, Shares, share_of, speedup_of};
+use crate::row::{Ended, Row, Shares, share_of, speedup_of, trap_name};
 use crate::text::{push_hundredths, push_numbered};
 use std::alloc::AllocError;
 
@@ -19,14 +19,14 @@ fn push_some(out: &mut Vec<u8>, speedup: Option<u128>) -> Result<(), AllocError>
     }
 }
 
-/// Appends the speed-up of a row.
+/// Appends the speed-up of a row, or what keeps it from one.
 fn push_speedup(out: &mut Vec<u8>, base: Option<u64>, row: &Row) -> Result<(), AllocError>
     ensures { OnOk result (out.new.items ≡ out.old.items ++ model.speedup_text base row.now) }
 {
-    if row.stopped {
-        out.extend_from_slice(b"stopped")
-    } else {
-        push_some(out, speedup_of(base, row))
+    match row.ended {
+        Ended::Whole => push_some(out, speedup_of(base, row)),
+        Ended::Trapped(trap) => out.extend_from_slice(trap_name(trap)),
+        Ended::Stopped => out.extend_from_slice(b"stopped"),
     }
 }
 

@@ -15,7 +15,7 @@ pub(crate) fn push_number(out: &mut Vec<u8>, n: u128) -> Result<(), AllocError>
     out.extend_from_slice(buffer.format(n).as_bytes())
 }
 
-/// Appends a text, and a number behind it.
+/// Appends a text, and a number after it.
 #[tactic(auto, unfolding(crate::specs::Rows::numbered))]
 pub(crate) fn push_numbered(out: &mut Vec<u8>, text: &[u8], n: u128) -> Result<(), AllocError>
     ensures { OnOk result (out.new.items ≡ out.old.items ++ model.numbered text.now n) }

@@ -94,15 +94,7 @@ few_of_block layout (Some b) few = by_test (nat_lt b (blocks layout)) refl
 few_carried : (layout : Shape) (k : MessageKind) (block : Option ℕ) → HaveFewLines layout
     → lines_carried layout k block ≤ 64
 few_carried layout kind.Data block few = few_of_block layout block few
-few_carried layout kind.Read block few = omega arith
-few_carried layout kind.Write block few = omega arith
-few_carried layout kind.FwdRead block few = omega arith
-few_carried layout kind.FwdWrite block few = omega arith
-few_carried layout kind.Inval block few = omega arith
-few_carried layout kind.Grant block few = omega arith
-few_carried layout kind.Ack block few = omega arith
-few_carried layout kind.Done block few = omega arith
-few_carried layout kind.Bye block few = omega arith
+few_carried layout other block few = omega arith
 
 delay_few : (costs : Costs) (layout : Shape) (i : ℕ) (p : Sent) → AreInRange costs
     → HaveFewLines layout → delay costs layout i p ≤ 65000000
@@ -135,8 +127,7 @@ delays_few costs layout i k time (p ∷ ps) range few =
 -- 4. Links as they are stored
 
 below_row : (n x j y : ℕ) → x < j → y < n → x * n + y < j * n
-below_row n x j y less in_row =
-    omega (arith, mul-le-mul_right {m = x + 1} {n = j} n (omega arith))
+below_row n x j y less in_row = omega (arith, mul-le-mul_right {m = x + 1} {n = j} n (omega arith))
 
 pub place_below : (n j i : ℕ) → j < n → i < n → j * n + i < n * n
 place_below n j i row col = below_row n j n i row col
@@ -186,8 +177,7 @@ pub link_taken : (ls : List (List ℕ)) (n j i : ℕ) (q : List ℕ) (x y : ℕ)
     → link_at (set ls (j * n + i) q) n x y
     ≡ cond (eqb x j && eqb y i) (behind_first (link_at ls n x y)) (link_at ls n x y)
 link_taken ls n j i q x y len row col bx by is =
-    link_set ls n j i q x y len row col bx by
-    ∙ (elim (eqb_tells x j) [
+    link_set ls n j i q x y len row col bx by ∙ (elim (eqb_tells x j) [
       | inl g ↦ elim (eqb_tells y i) [
         | inl h ↦ rw (g.0, h.0) (is ∙ ap (λ k. behind_first (link_at ls n k i)) (sym g.1)
             ∙ ap (λ k. behind_first (link_at ls n x k)) (sym h.1))

@@ -4,13 +4,14 @@ use Rattle.templates.specs.declared.plans.PlanEntry.{PlanEntry}
 use Rattle.block_layout.specs.Update.{changed}
 use Rattle.dsm_core.specs.rewriting_law.CoreRun.{commits}
 use Rattle.dsm_core.specs.node_machine.Runs.{GoesOnBy}
-use Rattle.dsm_core.specs.node_machine.word_visits.Tallies.{AreTallied, WordTally, steps_of}
+use Rattle.word_visits.specs.Tallies.{AreTallied, WordTally, steps_of}
 use Rattle.dsm_core.specs.node_model.declared.Standing.TheVariants.{Running, AtPoll}
 use Rattle.dsm_core.specs.node_model.Node.{Work, Node, Phase, can_execute, is_at_poll, standing_in, standing_of}
 use Rattle.dsm_core.specs.node_model.Node as node
 use Rattle.dsm_core.specs.node_model.Turns.{word_turn}
 use Rattle.dsm_core.specs.node_model.Core.{Core, Event, Exec, Take, May, AreAlike, IsCoreRun, after, event_step, may_execute}
-use Rattle.dsm_core.specs.CoreWords.{AreEachTallied, HaveEachPassed, steps_below}
+use Rattle.dsm_core.specs.CoreWords.{HaveEachPassed}
+use Rattle.timed_sim.specs.Tallied.{AreEachTallied, steps_below}
 use Rattle.dsm_core.proofs.CoreRuns.{after_alike}
 use Rattle.run_trace.specs.declared.kinds.CommitKinds.{CommitKinds}
 use Rattle.run_trace.specs.Kinds.{AreKindsOf}

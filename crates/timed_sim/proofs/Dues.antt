@@ -33,8 +33,7 @@ earliest_one due (suc k) d e = elim (earlier_one (earliest due k) (due k) d e) [
 ]
 
 -- where there is none, none of those below n is due
-pub earliest_none : (due : ℕ → Option Due) (n i : ℕ) → earliest due n ≡ None → i < n
-    → due i ≡ None
+pub earliest_none : (due : ℕ → Option Due) (n i : ℕ) → earliest due n ≡ None → i < n → due i ≡ None
 earliest_none due zero i e low = absurd (omega (arith, low))
 earliest_none due (suc k) i e low =
     let both = earlier_none (earliest due k) (due k) e in

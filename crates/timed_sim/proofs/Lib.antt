@@ -8,3 +8,4 @@ pub mod Made
 pub mod Running
 pub mod Words
 pub mod Stretching
+pub mod Tallying

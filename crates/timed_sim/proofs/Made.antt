@@ -1,5 +1,5 @@
 -- What a run keeps behind an event, and at the start.
-use Rattle.std.proofs.Common.{◌≡◌, ℕ, ◌+◌, ◌*◌, ◌≤◌, ◌^◌, List, [], ◌∷◌, length, map, refl, sym, ap, ◌∙◌, subst, arith}
+use Rattle.std.proofs.Common.{◌≡◌, ℕ, ◌+◌, ◌≤◌, List, [], ◌∷◌, length, map, refl, sym, ap, ◌∙◌, subst, arith}
 use Rattle.templates.specs.declared.plans.PlanEntry.{PlanEntry}
 use Rattle.block_layout.specs.Layout.{Shape}
 use Rattle.dsm_core.specs.dsm_messages.declared.headers.Sent.{Sent}
@@ -19,10 +19,8 @@ use Rattle.timed_sim.specs.declared.run.TimedRun.{TimedRun}
 use Rattle.timed_sim.specs.Clock.{AreInRange, Due, Times, clock_of, next, opening_times, times_after, times_by}
 use Rattle.timed_sim.specs.Counted.{CountsFor}
 use Rattle.timed_sim.specs.Stored.{AreInStep, AreSameTimes, AreWithin, HasMade, HaveBeenMade, AreClocks, IsBelow, IsKept, IsReady, plan_in, times_in, times_of}
-use Rattle.timed_sim.specs.Stretches.{HaveFewLines}
-use Rattle.timed_sim.proofs.Next.{IsNextAt}
 use Rattle.timed_sim.proofs.Arrivals.{AreBy, by_more}
-use Rattle.timed_sim.proofs.Steps.{step_in_step, step_within}
+use Rattle.timed_sim.proofs.Steps.{step_in_step}
 
 pub may_below : (work : Work) (c : Core) (e : Event) → May work c e → IsBelow work.layout.nodes e
 may_below work c (Exec i) may = may.0
@@ -97,8 +95,7 @@ pub ready_made : (costs : Costs) (old new : TimedRun) (d : Due)
     → May (work_of old.core) (core_of old.core) d.event → IsReady old
     → AreClocks old.core.layout.nodes new.clocks
     → HasMade costs (work_of old.core) (times_in old) (core_of old.core) d (times_in new)
-    (core_of new.core)
-    → IsReady new
+    (core_of new.core) → IsReady new
 ready_made costs old new d same costs_same logs plan counts may ready clocks made = record {
   clocks = subst (λ (w : Work). AreClocks w.layout.nodes new.clocks) (sym same) clocks;
   costs = subst AreInRange (sym costs_same) ready.costs;
@@ -198,14 +195,3 @@ opening_within n = record {
 
 pub opening_in_step : (n : ℕ) (work : Work) → AreInStep n opening_times (opening_core work)
 opening_in_step n work j i below low = refl
-
-pub made_within : (costs : Costs) (work : Work) (times new_times : Times) (c new : Core) (d : Due)
-    (turn : ℕ) → AreInRange costs → HaveFewLines work.layout → IsNextAt work times c d
-    → HasMade costs work times c d new_times new
-    → AreWithin work.layout.nodes (2 ^ 26 * turn) times
-    → AreWithin work.layout.nodes (2 ^ 26 * (turn + 1)) new_times
-made_within costs work times new_times c new d turn range few is made within =
-    let n = work.layout.nodes in
-    within_more n (2 ^ 26 * turn + 2 ^ 26) (2 ^ 26 * (turn + 1)) new_times (omega arith)
-    (within_same n (2 ^ 26 * turn + 2 ^ 26) new_times (times_after costs work times c d) made.times_are
-    (step_within costs work times c d (2 ^ 26 * turn) range few is within))

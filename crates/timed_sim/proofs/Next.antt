@@ -49,8 +49,7 @@ data IsDueBy (s : Standing) (word : Due) (take : Option Due) (d : Due) : Type 0 
   ByTake : (t : Due) → may_take s ≡ true → take ≡ Some t → d.event ≡ t.event
       → word.time ≤ d.time → d.time ≤ max word.time t.time → IsDueBy s word take d
 
-by_poll : (word d t : Due) (b : Bool)
-    → Some (cond b word (due_at word.time t.event)) ≡ Some d
+by_poll : (word d t : Due) (b : Bool) → Some (cond b word (due_at word.time t.event)) ≡ Some d
     → IsDueBy AtPoll word (Some t) d
 by_poll word d t true e = let is : word ≡ d = cc in ByWord refl (sym is)
 by_poll word d t false e =
@@ -127,8 +126,7 @@ next_of_is : (work : Work) (times : Times) (c : Core) (i : ℕ) (d : Due) → i 
     → AreInStep work.layout.nodes times c → next_of work times c i ≡ Some d
     → IsNextAt work times c d
 next_of_is work times c i d low in_step e =
-    by_kind (due_by (standing_of work (c.nodes i))
-    (due_at (clock_of (times.spent i)) (Exec i))
+    by_kind (due_by (standing_of work (c.nodes i)) (due_at (clock_of (times.spent i)) (Exec i))
     (first_to work.layout.nodes times i) d e)
   where
     by_kind : IsDueBy (standing_of work (c.nodes i))
@@ -150,10 +148,7 @@ next_is work times c d in_step e =
 word_none : (s : Standing) (word : Due) (take : Option Due) → may_execute s ≡ true
     → next_by s word take ≡ None → ⊥
 word_none Running word take may e = absurd (cc)
-word_none AtPoll word take may e = absurd (cc)
-word_none Waiting word take may e = absurd (cc)
-word_none Ended word take may e = absurd (cc)
-word_none Over word take may e = absurd (cc)
+word_none other word take may e = absurd (cc)
 
 clock_none : (clock : ℕ) (take : Option Due) → from_clock clock take ≡ None → take ≡ None
 clock_none clock None e = refl
@@ -191,10 +186,7 @@ none_may work times c (Take i j) in_step none may =
 
 over_by : (s : Standing) → (s ≢ Over → ⊥) → s ≡ Over
 over_by Over h = refl
-over_by Running h = absurd (h (λ e. absurd (cc)))
-over_by AtPoll h = absurd (h (λ e. absurd (cc)))
-over_by Waiting h = absurd (h (λ e. absurd (cc)))
-over_by Ended h = absurd (h (λ e. absurd (cc)))
+over_by other h = absurd (h (λ e. absurd (cc)))
 
 pub none_over : (work : Work) (times : Times) (c : Core) → AreInStep work.layout.nodes times c
     → next work times c ≡ None

@@ -51,13 +51,6 @@ times_append costs work times c [] ys = refl
 times_append costs work times c (x ∷ xs) ys =
     times_append costs work (times_after costs work times c x) (event_step work c x.event) xs ys
 
-pub same_back : (n : ℕ) (s t : Times) → AreSameTimes n s t → AreSameTimes n t s
-same_back n s t a = record {
-  spent = λ i low. sym (a.spent i low);
-  needs = λ i low. sym (a.needs i low);
-  arrivals = λ j i below low. sym (a.arrivals j i below low);
-}
-
 pub same_also : (n : ℕ) (s t u : Times) → AreSameTimes n s t → AreSameTimes n t u
     → AreSameTimes n s u
 same_also n s t u a b = record {
@@ -198,8 +191,7 @@ length_events (d ∷ ds) = ap suc (length_events ds)
 pub not_so_long : (costs : Costs) (work : Work) (plan : List PlanEntry) (turn : ℕ) (m : Moment)
     → RunsRewritten work → 18446744073709551615 ≤ turn
     → ((events : List Event) → IsCoreRun work (opening_core work) events
-    → length events ≤ most_events work)
-    → IsOnItsWay costs work plan turn m → ⊥
+    → length events ≤ most_events work) → IsOnItsWay costs work plan turn m → ⊥
 not_so_long costs work plan turn m runs long short way =
     let most = short (events_in way.run) way.is_run in
     let few = most_few work.layout.nodes work.budget runs.valid.few_nodes runs.few in
@@ -217,8 +209,7 @@ last_same (suc k) f g same =
     let last = same k (omega arith) in
     λ t. max (before t) (clock_of (last t))
 
-idle_same : (last : ℕ) (f g : ℕ → Spent) (a k : ℕ)
-    → ((i : ℕ) → a ≤ i → i < a + k → f i ≡ g i)
+idle_same : (last : ℕ) (f g : ℕ → Spent) (a k : ℕ) → ((i : ℕ) → a ≤ i → i < a + k → f i ≡ g i)
     → map (λ i. idle_until last (f i)) (range_with_len a k)
     ≡ map (λ i. idle_until last (g i)) (range_with_len a k)
 idle_same last f g a zero same = refl
@@ -251,12 +242,6 @@ outcome_by_clock costs work plan turn m o spent last steps way over (own, stands
       outcome = outcome;
       steps_are = made ∙ way.steps_are;
     }
-
--- what follows from two facts where a result is Ok
-pub both_ok : {X E : Type 0} (r : Result X E) (P Q R : X → Type 0) → ((x : X) → P x → Q x → R x)
-    → IfOk r P → IfOk r Q → IfOk r R
-both_ok (Ok x) P Q R f p q = f x p q
-both_ok (Err e) P Q R f p q = tt
 
 pub all_ok : {X E : Type 0} (r : Result X E) (P Q R S : X → Type 0)
     → ((x : X) → P x → Q x → R x → S x) → IfOk r P → IfOk r Q → IfOk r R → IfOk r S
@@ -292,8 +277,7 @@ sums_in : (last : ℕ) (f : ℕ → Spent) (a k : ℕ)
     → ((i : ℕ) → a ≤ i → i < a + k → clock_of (f i) ≤ last)
     → All (λ s. clock_of s ≡ last) (map (λ i. idle_until last (f i)) (range_with_len a k))
 sums_in last f a zero low m d none = absurd (omega (arith, none))
-sums_in last f a (suc k) low zero d some =
-    idle_sum last (f a) (low a (omega arith) (omega arith))
+sums_in last f a (suc k) low zero d some = idle_sum last (f a) (low a (omega arith) (omega arith))
 sums_in last f a (suc k) low (suc m) d some =
     sums_in last f (a + 1) k (λ i least most. low i (omega (arith, least)) (omega (arith, most))) m d
     (omega (arith, some))

@@ -10,7 +10,7 @@ use Rattle.dsm_core.specs.dsm_messages.Headers.{sent_by}
 use Rattle.dsm_core.specs.node_machine.declared.wanted.Wanted.{Wanted}
 use Rattle.dsm_core.specs.node_machine.Wanted.{wants_of_word}
 use Rattle.dsm_core.specs.node_model.declared.Standing.{Standing}
-use Rattle.dsm_core.specs.node_model.declared.Standing.TheVariants.{Running, AtPoll, Waiting, Ended, Over}
+use Rattle.dsm_core.specs.node_model.declared.Standing.TheVariants.{Running, Waiting}
 use Rattle.dsm_core.specs.node_model.Node.{Work, Node, standing_of}
 use Rattle.dsm_core.specs.node_model.Turns.{Turn, word_turn, take_turn}
 use Rattle.dsm_core.specs.node_model.Core.{Core, Event, Exec, Take, May, AreAlike, event_step, with_turn, with_list, take_first, wires_to}
@@ -152,9 +152,7 @@ gap_clock : (s : Standing) (need : Need) (gap : ℕ) (spent : Spent)
 gap_clock Waiting Read gap spent = omega arith
 gap_clock Waiting Write gap spent = omega arith
 gap_clock Running need gap spent = omega arith
-gap_clock AtPoll need gap spent = omega arith
-gap_clock Ended need gap spent = omega arith
-gap_clock Over need gap spent = omega arith
+gap_clock other need gap spent = omega arith
 
 event_clock : (costs : Costs) (e : Event) (spent : Spent) → AreInRange costs
     → clock_of (with_event costs e spent) ≤ clock_of spent + 1000000
@@ -203,11 +201,9 @@ step_within costs work times c d most range few is within =
     by_node false x y h g = omega (arith, g)
 
     by_sender : (j k time : ℕ) (b : Bool) → time ≤ most + 1000000
-        → AreBy most (without_taken d.event times.arrivals j k)
-        → AreBy (most + 2 ^ 26) (cond b
+        → AreBy most (without_taken d.event times.arrivals j k) → AreBy (most + 2 ^ 26) (cond b
         (with_sent time (delays_to costs work.layout (node_of d.event) k
-        (map sent_by (sends_at work c d.event)))
-        (without_taken d.event times.arrivals j k))
+        (map sent_by (sends_at work c d.event))) (without_taken d.event times.arrivals j k))
         (without_taken d.event times.arrivals j k))
     by_sender j k time true clock by =
         sent_by_then time (most + 2 ^ 26)

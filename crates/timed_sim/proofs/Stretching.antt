@@ -94,15 +94,11 @@ earliest_word due words times end (suc m) h =
     by : IsEarliest due words times end m → (words m ≡ 0) ⊎ (1 ≤ words m)
         → IsEarliest due words times end (suc m)
     by (NoWord none from) (inl never) = NoWord
-        (λ i low. elim (below_or_last i m low) [
-          | inl b ↦ none i b
-          | inr e ↦ ap words e ∙ never
-        ])
+        (λ i low. elim (below_or_last i m low) [ inl b ↦ none i b | inr e ↦ ap words e ∙ never ])
         (both_from end (earliest due m) (due m) from (h.late m last never))
     by (NoWord none from) (inr some) =
         let w = h.early m last some in
-        Word m last some w.1
-        (ap (λ z. earlier (earliest due m) z) w.0
+        Word m last some w.1 (ap (λ z. earlier (earliest due m) z) w.0
         ∙ word_first end (earliest due m) (word_due times m) from w.1)
     by (Word k low some near is) (inl never) = Word k (omega (arith, low)) some near
         (ap (λ z. earlier z (due m)) is
@@ -110,8 +106,7 @@ earliest_word due words times end (suc m) h =
     by (Word k low some near is) (inr here) =
         let w = h.early m last here in
         either k (nat_lt (clock_of (times.spent m)) (clock_of (times.spent k)))
-        (omega (arith, low)) some near here w.1
-        (λ t. earlier (is t) (w.0 t))
+        (omega (arith, low)) some near here w.1 (λ t. earlier (is t) (w.0 t))
 
 -- 2. A node that may execute a word, and for which no message arrives before
 
@@ -122,17 +117,14 @@ from_word AtPoll word None end may low from = refl
 from_word AtPoll word (Some t) end may low from =
     let less : nat_lt word.time t.time ≡ true = grind (arith, nat_tests, from, low) in
     ap (λ b. Some (cond b word (record { time = word.time; event = t.event }))) less
-from_word Waiting word take end may low from = absurd (cc)
-from_word Ended word take end may low from = absurd (cc)
-from_word Over word take end may low from = absurd (cc)
+from_word other word take end may low from = absurd (cc)
 
 -- nothing of a node begins before its clock
 poll_from : (word : Due) (take : Option Due) → IsFrom word.time (Some (at_poll word take))
 poll_from word None = omega arith
 poll_from word (Some t) = by (nat_lt word.time t.time)
   where
-    by : (b : Bool)
-        → word.time ≤ (cond b word (record { time = word.time; event = t.event })).time
+    by : (b : Bool) → word.time ≤ (cond b word (record { time = word.time; event = t.event })).time
     by true = omega arith
     by false = omega arith
 
@@ -204,14 +196,11 @@ pub record IsStretch (work : Work) (times : Times) (c d : Core) (end : ℕ) (wor
         → clock_of (times.spent i) + words i ≡ end
     pub mail : (i : ℕ) → i < work.layout.nodes → 1 ≤ words i
         → IsFrom end (first_to work.layout.nodes times i)
-    pub others : (i : ℕ) → i < work.layout.nodes → words i ≡ 0
-        → IsFrom end (next_of work times c i)
-    pub nodes : (i : ℕ) → i < work.layout.nodes
-        → GoesOnBy work (words i) (c.nodes i) (d.nodes i)
+    pub others : (i : ℕ) → i < work.layout.nodes → words i ≡ 0 → IsFrom end (next_of work times c i)
+    pub nodes : (i : ℕ) → i < work.layout.nodes → GoesOnBy work (words i) (c.nodes i) (d.nodes i)
     pub last : (i : ℕ) → i < work.layout.nodes → 1 ≤ words i
         → may_execute (standing_of work (d.nodes i)) ≡ true
-    pub lists : (j i : ℕ) → j < work.layout.nodes → i < work.layout.nodes
-        → d.list j i ≡ c.list j i
+    pub lists : (j i : ℕ) → j < work.layout.nodes → i < work.layout.nodes → d.list j i ≡ c.list j i
 
 early_in : (work : Work) (times : Times) (c d : Core) (end : ℕ) (words : ℕ → ℕ)
     → IsStretch work times c d end words
@@ -269,8 +258,7 @@ behind_word costs work times c d end words k w low count s = record {
           (sym t.1) own
       | inr t ↦ (let spent = other times.spent k i one t.1 in
           let here = other words k i w t.1 in
-          (λ z. clock_of (spent z) + here z)
-          ∙ s.ends i bi (subst (λ z. 1 ≤ z) here some))
+          (λ z. clock_of (spent z) + here z) ∙ s.ends i bi (subst (λ z. 1 ≤ z) here some))
     ];
     mail = λ i bi some. elim (eqb_tells i k) [
       | inl t ↦ subst (λ z. IsFrom end (first_to work.layout.nodes times z)) (sym t.1) (s.mail k low first)
@@ -281,8 +269,7 @@ behind_word costs work times c d end words k w low count s = record {
           (at_end (sym (hit words k w) ∙ ap (changed words k w) (sym t.1) ∙ none))
       | inr t ↦ (let node = other c.nodes k i next t.1 in
           let spent = other times.spent k i one t.1 in
-          subst (IsFrom end)
-          (sym (λ z. next_by (standing_of work (node z))
+          subst (IsFrom end) (sym (λ z. next_by (standing_of work (node z))
           (record { time = clock_of (spent z); event = Exec i })
           (first_to work.layout.nodes times i)))
           (s.others i bi (sym (other words k i w t.1) ∙ none)))
@@ -452,8 +439,7 @@ one_made costs work plan total end k w words times new_times c d lead all s same
     let rest = lead (changed words k w) later (event_step work c (Exec k))
     (omega (arith, fewer, all))
     (stretch_same work (with_word k times) later (event_step work c (Exec k)) d end
-    (changed words k w) b.made.times_are b.behind)
-    (record {
+    (changed words k w) b.made.times_are b.behind) (record {
       spent = λ i bi. same.spent i bi ∙ words_split words times k w i count
           ∙ ap (more_words (changed words k w i)) (b.made.times_are.spent i bi);
       needs = λ i bi. same.needs i bi ∙ b.made.times_are.needs i bi;
@@ -518,8 +504,7 @@ pub record IsBehind (work : Work) (plan : List PlanEntry) (words : ℕ → ℕ) 
   pub nodes : work.layout.nodes ≤ 16
   pub few : (i : ℕ) → i < work.layout.nodes → words i ≤ 4096
   pub times : AreSameTimes work.layout.nodes new.times (with_words words old.times)
-  pub steps : new.steps
-      ≡ old.steps + steps_of_each work plan words old.core.nodes work.layout.nodes
+  pub steps : new.steps ≡ old.steps + steps_of_each work plan words old.core.nodes work.layout.nodes
 
 pub stretch_made : (costs : Costs) (work : Work) (plan : List PlanEntry) (end k : ℕ)
     (words : ℕ → ℕ) (old new : Moment) → k < work.layout.nodes → 1 ≤ words k
@@ -565,8 +550,7 @@ words_by false words lack is some = absurd (omega (arith, is, some))
 
 pub is_stretch : (work : Work) (times : Times) (c d : Core) (end : ℕ) (words : ℕ → ℕ)
     → ((i : ℕ) → i < work.layout.nodes → words i ≡ words_until work times c end i)
-    → AreFree work times c end → HaveEachPassed work words c d
-    → IsStretch work times c d end words
+    → AreFree work times c end → HaveEachPassed work words c d → IsStretch work times c d end words
 is_stretch work times c d end words are free passed = record {
   may = may;
   ends = λ i low some.
@@ -649,15 +633,13 @@ pub stretch_ready : (old new : TimedRun) (words : ℕ → ℕ) → work_of new.c
     → HaveEachPassed (work_of old.core) words (core_of old.core) (core_of new.core)
     → AreClocks old.core.layout.nodes new.clocks
     → AreSameTimes old.core.layout.nodes (times_of old.core.layout.nodes new.clocks)
-    (with_words words (times_in old))
-    → IsReady old → IsReady new
+    (with_words words (times_in old)) → IsReady old → IsReady new
 stretch_ready old new words same costs logs plan counts passed clocks times ready = record {
   clocks = subst (λ (w : Work). AreClocks w.layout.nodes new.clocks) (sym same) clocks;
   costs = subst AreInRange (sym costs) ready.costs;
   undo_logs = logs ∙ ready.undo_logs ∙ ap (λ (w : Work). w.layout.nodes) (sym same);
   in_step = subst (λ (w : Work). AreInStep w.layout.nodes (times_of w.layout.nodes new.clocks) (core_of new.core))
-      (sym same)
-      (λ j i bj bi. ap length (times.arrivals j i bj bi) ∙ ready.in_step j i bj bi
+      (sym same) (λ j i bj bi. ap length (times.arrivals j i bj bi) ∙ ready.in_step j i bj bi
       ∙ ap length (sym (passed.lists j i bj bi)));
   counts = counts_here old new same plan counts;
 }
@@ -670,8 +652,7 @@ pub stretch_by : (old new : TimedRun) (end k : ℕ) (words : ℕ → ℕ)
     → AreFree (work_of old.core) (times_in old) (core_of old.core) end
     → HaveEachPassed (work_of old.core) words (core_of old.core) (core_of new.core)
     → AreSameTimes old.core.layout.nodes (times_of old.core.layout.nodes new.clocks)
-    (with_words words (times_in old))
-    → old.core.layout.nodes ≤ 16
+    (with_words words (times_in old)) → old.core.layout.nodes ≤ 16
     → new.count.steps ≡ old.count.steps
     + steps_of_each (work_of old.core) (plan_in old) words (core_of old.core).nodes
     old.core.layout.nodes

@@ -7,7 +7,7 @@ use Rattle.dsm_core.specs.dsm_messages.declared.messages.Need.{Need}
 use Rattle.dsm_core.specs.dsm_messages.Headers.{sent_by}
 use Rattle.dsm_core.specs.node_machine.Wanted.{wants_along, wants_of_word}
 use Rattle.dsm_core.specs.node_model.declared.Standing.{Standing}
-use Rattle.dsm_core.specs.node_model.declared.Standing.TheVariants.{Running, AtPoll, Waiting, Ended, Over}
+use Rattle.dsm_core.specs.node_model.declared.Standing.TheVariants.{Running, AtPoll}
 use Rattle.dsm_core.specs.node_model.Node.{Work, Node, Want, Move, Next, Again, To, Enters, Waits, Leaves, phase_after, standing_in, standing_of, word_outcome}
 use Rattle.dsm_core.specs.node_model.Turns.{Turn, want_in, want_all, with_miss, with_byes, each_block_once, wants_of, after_word, after_wants, word_turn, is_ended}
 use Rattle.dsm_core.specs.node_model.Core.{Core, Exec, May, may_execute}
@@ -96,12 +96,9 @@ no_gap Running need x may =
     let e : x.idle + 0 ≡ x.idle = omega arith in λ t. record x { idle = e t }
 no_gap AtPoll need x may =
     let e : x.idle + 0 ≡ x.idle = omega arith in λ t. record x { idle = e t }
-no_gap Waiting need x may = absurd (cc)
-no_gap Ended need x may = absurd (cc)
-no_gap Over need x may = absurd (cc)
+no_gap other need x may = absurd (cc)
 
-word_spent : (costs : Costs) (i : ℕ) (s : Standing) (need : Need) (x : Spent)
-    → may_execute s ≡ true
+word_spent : (costs : Costs) (i : ℕ) (s : Standing) (need : Need) (x : Spent) → may_execute s ≡ true
     → with_event costs (Exec i) (with_gap s need (clock_of x - clock_of x) x) ≡ one_word_more x
 word_spent costs i s need x may =
     let none : clock_of x - clock_of x ≡ 0 = omega arith in
@@ -156,8 +153,7 @@ word_made costs old new i d same p here is times =
     let time = is.word i here in
     let due : d ≡ word_due (times_in old) i = λ t. record { time = time t; event = here t } in
     subst (λ (x : Due). HasMade costs work (times_in old) c x (times_in new) (core_of new.core))
-    (sym due)
-    (word_made_at costs work (times_in old) (times_in new) c (core_of new.core) i
+    (sym due) (word_made_at costs work (times_in old) (times_in new) c (core_of new.core) i
     (subst (May work c) here is.may) p
     (subst (λ m. AreSameTimes work.layout.nodes (times_of m new.clocks) (with_word i (times_in old)))
     (sym (ap (λ (w : Work). w.layout.nodes) same)) times))

@@ -1,7 +1,7 @@
 -- Helps the code alone: how many steps of the original events make.
 use Rattle.std.specs.Prelude.{◌≡◌, List, Option, Some, None}
 use Rattle.templates.specs.declared.plans.PlanEntry.{PlanEntry}
-use Rattle.dsm_core.specs.node_machine.word_visits.TallyTables.{AreTalliesIn, tallies_of}
+use Rattle.word_visits.specs.TallyTables.{AreTalliesIn, tallies_of}
 use Rattle.dsm_core.specs.node_model.Node.{Work}
 use Rattle.dsm_core.specs.node_model.Core.{Core, Event, Exec, Take}
 use Rattle.run_trace.specs.declared.committing.CommitSight.{CommitSight}

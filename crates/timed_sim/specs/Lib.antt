@@ -1,4 +1,5 @@
 pub mod Clock
 pub mod Stored
 pub mod Stretches
+pub mod Tallied
 pub mod Counted

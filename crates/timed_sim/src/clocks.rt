@@ -34,7 +34,7 @@ pub(crate) struct Clocks {
 }
 
 impl Clocks {
-    /// The clocks of so many nodes at the start.
+    /// The clocks of `count` nodes at the start.
     pub(crate) fn new(alloc: Global, count: u8) -> Result<Clocks, AllocError>
         requires few { count ≤ 16 }
         ensures clocks { IfOk result (AreClocks count) }

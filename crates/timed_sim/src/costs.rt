@@ -4,7 +4,7 @@ ghost use Rattle.std.specs.Prelude.{◌≡◌, ◌+◌, ◌^◌, ◌<◌, ◌≤
 ghost use Rattle.timed_sim.specs.Clock.{both_spent, clock_of, idle_until, total_spent};
 
 /// What messages cost, in the time of one word. Each is a million at most.
-#[derive(Clone, Copy, Debug, PartialEq, Eq)]
+#[derive(Clone, Copy, PartialEq, Eq)]
 pub struct Costs {
     /// How long a message to another node is on its way.
     pub latency: u32,
@@ -15,7 +15,7 @@ pub struct Costs {
 }
 
 /// What a node has spent its time on, in the time of one word.
-#[derive(Clone, Copy, Debug, PartialEq, Eq)]
+#[derive(Clone, Copy, PartialEq, Eq)]
 pub struct Spent {
     /// Words that it executed.
     pub words: u128,

@@ -12,11 +12,11 @@ ghost use Rattle.dsm_core.specs.run_order.OwnRun.{node_of};
 ghost use Rattle.run_trace.specs.Steps.{steps_made};
 ghost use Rattle.timed_sim.specs.Counted.{CountsFor, IsSightAt};
 
-use dsm_core::node_machine::Tallies;
 use dsm_core::{Core, Event, Work};
 use run_trace::{CommitKinds, CommitSight, commit_sight, has_committed};
 use std::alloc::{AllocError, Global};
 use templates::{Code, Plan};
+use word_visits::Tallies;
 
 /// When the words of rewritten code commit, and how many steps of the original were made.
 #[derive(Drop)]
@@ -51,7 +51,7 @@ impl<'a> StepCount<'a> {
         })
     }
 
-    /// So many steps more were made.
+    /// `steps` more steps were made.
     pub(crate) fn add(&mut self, steps: u64)
         requires few { self.old.steps ≤ 2 ^ 100 }
         ensures steps { self.new.steps ≡ self.old.steps + steps }
@@ -83,7 +83,7 @@ pub(crate) fn steps_of_word(commits: bool) -> u64
 }
 
 /// How many steps an event has made, by what was seen before it, the byte that it printed, and the
-/// core behind it.
+/// core after it.
 pub(crate) fn steps_of_event(
     core: &Core<'_>,
     event: Event,

@@ -1,4 +1,6 @@
 //! Runs of nodes on one thread, by a clock.
+//!
+//! It hands on [`dsm_core`], whose cores it runs.
 #![tactic(auto)]
 
 mod clocks;
@@ -9,6 +11,7 @@ mod link;
 mod links;
 mod run;
 mod stretch;
+mod tallied;
 
 pub use costs::{Costs, Spent, total_spent};
 pub use dsm_core;

@@ -15,7 +15,7 @@ use dsm_core::Event;
 use dsm_core::rewriting_law::dsm_messages::{Header, Headers, MessageKind, Sent};
 use std::alloc::{AllocError, Global};
 
-/// Links between so many nodes, with no message on its way.
+/// Links between `count` nodes, with no message on its way.
 pub(crate) fn new_links(alloc: Global, count: u8) -> Result<Vec<Arrivals>, AllocError>
     requires few { count ≤ 16 }
     ensures links { IfOk result (λ ls. AreLinks count ls.items) }

@@ -20,6 +20,7 @@ use crate::clocks::Clocks;
 use crate::costs::{Costs, Spent};
 use crate::counting::{StepCount, steps_of_event, steps_of_word};
 use crate::due::{Due, node_of};
+use crate::tallied::run_each_tallied;
 use block_layout::layout_law;
 use dsm_core::rewriting_law::progress_law;
 use dsm_core::{Core, Event, Outcome, StoppedEarly, UndoLogs, Work};
@@ -48,8 +49,8 @@ pub struct Timed {
 /// Of all nodes' next events the one that begins first is made, and of equals that of the least
 /// node; `specs/Clock` states the rule. A node that runs executes its next word; at a poll it takes
 /// the message that arrived first, if one has arrived, and else executes its word. Where it waits,
-/// or has ended, it takes the message that arrives first. So the run is one of the core runs of
-/// which the law of rewriting speaks: what it computes is an interleaved run of the original.
+/// or has ended, it takes the message that arrives first. So the run is one of those that the law
+/// of rewriting speaks of: what it computes is an interleaved run of the original.
 ///
 /// It ends, since no node executes more words than its budget. It fails only where memory runs out.
 pub fn simulate_by_clock(
@@ -238,9 +239,12 @@ impl<'a> TimedRun<'a> {
         if !is_any(&words, count) {
             return Ok(false);
         }
-        let steps = self
-            .core
-            .run_each_counting(&words, &mut self.undo_logs, &self.count.tallies)?;
+        let steps = run_each_tallied(
+            &mut self.core,
+            &words,
+            &mut self.undo_logs,
+            &self.count.tallies,
+        )?;
         self.clocks.count_words(count, &words);
         self.count.add(steps);
         Ok(true)

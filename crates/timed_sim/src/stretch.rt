@@ -14,7 +14,7 @@ use crate::due::Due;
 use dsm_core::Core;
 
 impl Clocks {
-    /// A time before which nodes execute words alone, and none more than so many.
+    /// A time before which nodes execute words alone, and none more than `most`.
     pub(crate) fn free_until(&self, core: &Core<'_>, most: u32) -> u128
         requires most { most ≤ 4096 }
         requires clocks { AreClocks core.now.layout.nodes self.now }
@@ -30,7 +30,7 @@ impl Clocks {
         end
     }
 
-    /// A time before which a node executes words alone, and no more than so many.
+    /// A time before which a node executes words alone, and no more than `most`.
     fn node_free_until(&self, core: &Core<'_>, node: u8, most: u32) -> u128
         requires most { most ≤ 4096 }
         requires clocks { AreClocks core.now.layout.nodes self.now }
@@ -86,7 +86,7 @@ impl Clocks {
         end.saturating_sub(self.spent[node as usize].clock()) as u32
     }
 
-    /// What a node's clock shows once it has executed so many words.
+    /// What a node's clock shows once it has executed `words` words.
     pub(crate) fn time_after(&self, count: u8, node: u8, words: u64) -> u128
         requires clocks { AreClocks count self.now }
         requires within { AreWithin count (2 ^ 100) (times_of count self.now) }
@@ -97,7 +97,7 @@ impl Clocks {
         }
     }
 
-    /// Each node has executed so many words that want nothing and send nothing.
+    /// Each node has executed its number of words, which want nothing and send nothing.
     pub(crate) fn count_words(&mut self, count: u8, words: &[u32; 16])
         requires clocks { AreClocks count self.old }
         requires few { count ≤ 16 }
@@ -111,7 +111,7 @@ impl Clocks {
         }
     }
 
-    /// A node has executed so many words.
+    /// A node has executed `words` words.
     fn add_words(&mut self, node: u8, words: u32)
         requires node { node < length self.old.spent.items }
         requires few { (slice_index_or self.old.spent.items node nothing_spent).words ≤ 2 ^ 100 }

@@ -1,11 +1,11 @@
 -- The text of rewritten code, which is put in pieces, an entry after another.
-use Rattle.std.proofs.Common.{◌≡◌, ℕ, ◌+◌, ◌<◌, ◌≤◌, List, [], ◌++◌, length, drop, refl, sym, ap, ◌∙◌, subst, append-nil, append_assoc}
+use Rattle.std.proofs.Common.{◌≡◌, ℕ, ◌+◌, ◌<◌, List, [], ◌++◌, length, drop, refl, sym, ap, ◌∙◌, append-nil, append_assoc}
 use Rattle.exec_map.specs.Contents.{program_of}
 use Rattle.templates.specs.declared.plans.PlanEntry.{PlanEntry}
 use Rattle.jump_map.specs.Image.{plan_items}
 use Rattle.code_view.specs.Code.{entries_text, entry_text, words_of}
 use Rattle.code_view.specs.declared.view.CodeView.{CodeView}
-use Rattle.code_view.proofs.Lines.{count_past, front_of, none_left, past_entry}
+use Rattle.code_view.proofs.Lines.{count_past, front_of, past_entry}
 use Rattle.dsm_io.specs.Causes.{Appends}
 use Rattle.dsm_io.specs.States.{SinkState}
 use Rattle.text_output.specs.declared.failure.Failure.{Failure}
@@ -41,8 +41,7 @@ entry_gathered v start now lines more index number next entries e same lt is beh
       put = u.put;
       faults = u.faults;
       reached = past_entry v.program.now v.image.now number next v.plan.now index e (u.pieces ++ lines)
-          (u.pieces ++ more) (shown_text v) left behind
-          (ap (λ t. u.pieces ++ t) text
+          (u.pieces ++ more) (shown_text v) left behind (ap (λ t. u.pieces ++ t) text
           ∙ sym (append_assoc u.pieces lines (entry_text v.program.now v.image.now number e)))
           u.reached;
       count = count_past (program_of v.program.now) number next
@@ -79,14 +78,3 @@ lines_stop v start now lines index number f out u =
     stops_behind (IsLike (shown_text v)) IsNever IsNever (shown_text v) 0 start now u.pieces
     (lines ++ rest_from v index number) f out refl
     (sym u.reached ∙ append_assoc u.pieces lines (rest_from v index number)) u.put
-
--- all lines are put
-pub all_put : (v : CodeView) (start before now : SinkState) (lines : List ℕ) (index number : ℕ)
-    → IsUnderWay v start before lines index number → length v.plan.now ≤ index
-    → Appends before.taken now.taken lines → Appends start.taken now.taken (shown_text v)
-all_put v start before now lines index number u end put =
-    let none : rest_from v index number ≡ [] =
-    ap (λ es. entries_text v.program.now v.image.now number es) (none_left v.plan.now index end) in
-    subst (Appends start.taken now.taken)
-    (sym (append-nil (u.pieces ++ lines)) ∙ ap (λ t. (u.pieces ++ lines) ++ t) (sym none) ∙ u.reached)
-    (joins start.taken before.taken now.taken u.pieces lines u.put put)

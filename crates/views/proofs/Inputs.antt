@@ -54,8 +54,7 @@ pub has_executable : (n : FileNames) → Contains (list_of n) n.executable
 has_executable n =
     Contains-append_left (n.executable ∷ []) (behind n) n.executable (first_of n.executable)
 
-has_behind : (n : FileNames) (name : List ℕ) → Contains (behind n) name
-    → Contains (list_of n) name
+has_behind : (n : FileNames) (name : List ℕ) → Contains (behind n) name → Contains (list_of n) name
 has_behind n name h = Contains-append_right (n.executable ∷ []) (behind n) name h
 
 pub has_text : (n : FileNames) (name : List ℕ) → n.text ≡ Some name → Contains (list_of n) name
@@ -194,8 +193,7 @@ rose_before : (a b c : ℕ) → a ≤ b → Rose b c → Rose a c
 rose_before a b c low rose = omega (arith, low, rose)
 
 too_long_before : (files between now : FilesState) (name : List ℕ)
-    → between.held name ≡ files.held name
-    → files.failed_reads name ≤ between.failed_reads name
+    → between.held name ≡ files.held name → files.failed_reads name ≤ between.failed_reads name
     → IsTooLong between now name → IsTooLong files now name
 too_long_before files between now name same low h =
     go (files.held name) (subst (λ o. MatchOption o (Rose (between.failed_reads name) (now.failed_reads name))
@@ -208,8 +206,7 @@ too_long_before files between now name same low h =
     go (Some file) k = k
 
 pub later_read : (files between now : FilesState) (name : List ℕ) (f : Failure)
-    → between.held name ≡ files.held name
-    → files.failed_reads name ≤ between.failed_reads name
+    → between.held name ≡ files.held name → files.failed_reads name ≤ between.failed_reads name
     → IsReadFailure between now name f → IsReadFailure files now name f
 later_read files between now name (Input line) same low h = elim h [
   | inl failed ↦ inl (rose_before _ _ _ low failed.0, failed.1)
@@ -244,8 +241,7 @@ pub bytes_before : (files between : FilesState) (o : Option (List ℕ)) (bytes :
     → ((n : List ℕ) → between.held n ≡ files.held n) → AreBytes between o bytes
     → AreBytes files o bytes
 bytes_before files between None bytes same h = h
-bytes_before files between (Some name) bytes same h =
-    subst (λ o. IsContent o bytes) (same name) h
+bytes_before files between (Some name) bytes same h = subst (λ o. IsContent o bytes) (same name) h
 
 -- 4. A view fails where a file isn't read
 

@@ -53,8 +53,7 @@ no_more_pushed o t seen more hidden all = λ trace whole.
 pub late_word : (o : EventFilter) (t : Tracer) (seen more : List Traced) (x : Traced) → HasOne (record_traced t)
     → shown o more ≡ [] → HasTraced t (seen ++ (more ++ x ∷ [])) → o.to < x.stamp → ShowsNoMore o t seen
 late_word o t seen more x one hidden traced late =
-    no_more_pushed o t seen more hidden
-    (λ trace whole. ends_later t o.to (seen ++ more) x trace one
+    no_more_pushed o t seen more hidden (λ trace whole. ends_later t o.to (seen ++ more) x trace one
     (subst (HasTraced t) (sym (append_assoc seen more (x ∷ []))) traced) late whole)
 
 -- a view asks for no words that only compute

@@ -63,8 +63,7 @@ trace_of_run run from to block one = record {
 }
 
 blocks_with : (run : RecordedFiles) (verified : Option (List ℕ))
-    → reads (Blocks (with_verified run verified))
-    ≡ list_of (run_files (with_verified run verified))
+    → reads (Blocks (with_verified run verified)) ≡ list_of (run_files (with_verified run verified))
 blocks_with run None = refl
 blocks_with run (Some verified) = refl
 
@@ -174,8 +173,7 @@ pub broken_refused : (inputs : Inputs) (prepared : Prepared) (kept : Kept) (f : 
     → IsWorkOf inputs kept prepared.program prepared.rewritten.plan (work_for prepared)
     → IsRecordRefusal (IsBrokenRun (work_for prepared) kept) f → IsReplayRefusal inputs f
 broken_refused inputs prepared kept f asked h =
-    text_refused inputs (IsBrokenRun (work_for prepared) kept) f
-    (λ line broken. inr (inr (record {
+    text_refused inputs (IsBrokenRun (work_for prepared) kept) f (λ line broken. inr (inr (record {
       kept = kept;
       elf = prepared.program;
       plan = prepared.rewritten.plan;

@@ -168,8 +168,7 @@ speedup_kept a output before now f h = λ status name. elim h [
 
 -- a file that isn't written holds what it held, or its write failed
 unwritten_left : (a : TimeArguments) (output : List ℕ) (before now : FilesState) (f : Failure)
-    → IsSpeedupUnwritten a output before now f
-    → (now.held output ≡ before.held output)
+    → IsSpeedupUnwritten a output before now f → (now.held output ≡ before.held output)
     ⊎ Rose (before.failed_writes output) (now.failed_writes output)
 unwritten_left a output before now (Input line) h = absurd h.failure
 unwritten_left a output before now (NotWritten line) h = inr h.failure.0
@@ -204,8 +203,7 @@ speedup_left a output before now f h contents = λ name among. elim h [
 -- a file that is too long is no refusal
 pub speedup_longer : {T : Type 0} (a : TimeArguments) (output : List ℕ) (before now : FilesState)
     (r : Result T Failure) (name content : List ℕ)
-    → OnOk r (IsSpeedupWritten a output before now)
-    → IfErr r (IsSpeedupFailure a output before now)
+    → OnOk r (IsSpeedupWritten a output before now) → IfErr r (IsSpeedupFailure a output before now)
     → Contains (reads (Speedup a output)) name → before.held name ≡ Some content
     → file_limit < length content → MatchResult r (λ _. ⊥) IsNoRefusal
 speedup_longer a output before now (Ok x) name content ok failure among is long =

@@ -32,8 +32,7 @@ all_one : (P : Row → Type 0) (r : Row) → P r → All P (r ∷ [])
 all_one P r h zero d lt = h
 all_one P r h (suc k) d lt = absurd (omega (arith, lt))
 
-pub one_fit : (P : Row → Type 0) (rs : List Row) (r : Row) → All P rs → P r
-    → All P (rs ++ r ∷ [])
+pub one_fit : (P : Row → Type 0) (rs : List Row) (r : Row) → All P rs → P r → All P (rs ++ r ∷ [])
 one_fit P rs r all h = All-append P rs (r ∷ []) all (all_one P r h)
 
 -- the first numbers, and one more

@@ -125,8 +125,7 @@ outcome_unput o more before now OutOfMemory h = elim h [
 -- the lines of the times weren't put, behind the text of the outcome
 pub times_unput : (text more : List ℕ) (start before now : SinkState) (f : Failure)
     → Appends start.taken before.taken text → before.faults ≡ start.faults
-    → IsPutFailure before now more f
-    → FailsAs (IsLike (text ++ more)) IsNever IsNever start now f
+    → IsPutFailure before now more f → FailsAs (IsLike (text ++ more)) IsNever IsNever start now f
 times_unput text more start before now f put same h =
     put_fails (IsLike (text ++ more)) IsNever IsNever (text ++ more) 0 start before now text more []
     f refl (ap (λ t. text ++ t) (sym (append-nil more))) put same h

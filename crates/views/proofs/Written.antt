@@ -202,8 +202,7 @@ unwritten_left run output s before now OutOfMemory h = h.failure
 
 abbrev IsLeftAt : View → (List ℕ → List ℕ) → (before now : FilesState) → List ℕ → Type 0
 IsLeftAt v contents before now name =
-    (now.held name ≡ before.held name)
-    ⊎ (IfSome (now.held name) (IsWritten v contents)
+    (now.held name ≡ before.held name) ⊎ (IfSome (now.held name) (IsWritten v contents)
     ⊎ Rose (before.failed_writes name) (now.failed_writes name))
 
 pub page_left : (run : RecordedFiles) (output : List ℕ) (from to : Option ℕ) (before now : FilesState) (f : Failure)

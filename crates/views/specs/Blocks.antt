@@ -15,7 +15,7 @@ use Rattle.prepared_run.specs.Replays.{IsWorkOf}
 use Rattle.prepared_run.specs.Text.{node_lines}
 
 -- the text of the costs of a trace: what each node counts, in the lines that an outcome has of it,
--- and behind them the lines of the blocks, where these functions name the code
+-- and after them the lines of the blocks, where these functions name the code
 abbrev pub IsCostsText : (symbols : List Symbol) → Shape → List Traced → (text : List ℕ) → Type 0
 IsCostsText symbols layout trace text =
     IsBlocksText layout symbols trace (node_lines 0 (counts_by_node layout.nodes trace)) text

@@ -14,7 +14,7 @@ use Rattle.gdb_server.specs.Transcripts.{Standing, opening, Serves}
 use Rattle.gdb_server.specs.declared.ServeEnd.{ServeEnd}
 
 -- The recorded run that the inputs ask for, at the start of the run on one memory whose picks it
--- stands for. What is seen from a position in that is the state of the original's processors behind
+-- stands for. What is seen from a position in that is the state of the original's processors after
 -- so many of these picks (`shown_from`).
 pub record IsShown (inputs : Inputs) (s : Recorded) : Type 0 where
   pub asked : IsWorkOf inputs s.kept s.stand.run.program s.plan (work_shown s)

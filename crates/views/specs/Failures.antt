@@ -78,7 +78,7 @@ FailsAsRun IsTextFor inputs before now f =
 abbrev pub TellsWhole : Work → Kept → Type 0
 TellsWhole work kept = (told : List Told) × TellsWholeRun work kept told
 
--- the trace begins with these events, and all behind them have later stamps than this one
+-- the trace begins with these events, and all after them have later stamps than this one
 pub record AreAllUpTo (to : ℕ) (seen trace : List Traced) : Type 0 where
   pub behind : List Traced
   pub trace_is : trace ≡ seen ++ behind

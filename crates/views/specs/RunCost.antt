@@ -23,7 +23,7 @@ run_of a record_file = record {
   verified = a.verified;
 }
 
--- the table of what the words of a run count, and behind it what each node counts, in the lines
+-- the table of what the words of a run count, and after it what each node counts, in the lines
 -- that an outcome has of it
 pub record IsTextOfCosts (symbols : List Symbol) (counts : List WordCounts)
     (nodes : List NodeCounts) (text : List ℕ) : Type 0

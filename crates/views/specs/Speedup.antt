@@ -2,6 +2,7 @@
 use Rattle.std.specs.Prelude.{◌≡◌, ℕ, nat_lt, Bool, true, false, List, [], ◌∷◌, ◌++◌, filter, Option, None, Some, is_some, All, Contains}
 use Rattle.std.specs.List.{list_any}
 use Rattle.elf32_read.specs.Elf.{Elf}
+use Rattle.rv32_program.specs.declared.Exit.TheVariants as exit
 use Rattle.rv32_program.specs.declared.End.{End}
 use Rattle.rv32_program.specs.declared.End.TheVariants.{Exited, Stopped}
 use Rattle.templates.specs.declared.plans.PlanEntry.{PlanEntry}
@@ -13,6 +14,12 @@ use Rattle.timed_sim.specs.declared.costs.Costs.{Costs}
 use Rattle.timed_sim.specs.declared.costs.Spent.{Spent}
 use Rattle.timed_sim.specs.Clock.{IsOutcomeByClock, clock_of, total_spent}
 use Rattle.speedup_page.specs.declared.page.Parameters.{Parameters}
+use Rattle.speedup_page.specs.declared.row.Trap.{Trap}
+use Rattle.speedup_page.specs.declared.row.Trap.TheVariants as trap
+use Rattle.speedup_page.specs.declared.row.Ended.{Ended}
+use Rattle.speedup_page.specs.declared.row.Ended.TheVariants as ended
+use Rattle.speedup_page.specs.declared.row.Base.{Base}
+use Rattle.speedup_page.specs.declared.row.Base.TheVariants as base
 use Rattle.speedup_page.specs.declared.row.Row.{Row}
 use Rattle.speedup_page.specs.declared.row.Shares.{Shares}
 use Rattle.speedup_page.specs.Page.{page_text}
@@ -34,6 +41,35 @@ abbrev pub is_stopped : End → Bool
 is_stopped (Stopped budget) = true
 is_stopped (Exited exit) = false
 
+-- the trap by which a processor ended, if it did
+abbrev pub trap_of : End → Option Trap
+trap_of (Exited (exit.Code code)) = None
+trap_of (Exited (exit.Ebreak a)) = Some trap.Ebreak
+trap_of (Exited (exit.Illegal a)) = Some trap.Illegal
+trap_of (Exited (exit.Misaligned a)) = Some trap.Misaligned
+trap_of (Exited (exit.Access a)) = Some trap.Access
+trap_of (Exited (exit.Fetch a)) = Some trap.Fetch
+trap_of (Stopped budget) = None
+
+-- the first trap of several processors
+abbrev pub first_or : Option Trap → Option Trap → Option Trap
+first_or None other = other
+first_or (Some t) other = Some t
+
+abbrev pub first_trap : List End → Option Trap
+first_trap [] = None
+first_trap (e ∷ es) = first_or (trap_of e) (first_trap es)
+
+-- HOW A RUN ENDED: by a trap, where a processor did; else stopped, where the budget stopped one; and
+-- else whole
+abbrev pub ended_by : Option Trap → (stopped : Bool) → Ended
+ended_by None true = ended.Stopped
+ended_by None false = ended.Whole
+ended_by (Some t) stopped = ended.Trapped t
+
+abbrev pub ended_of : List End → Ended
+ended_of ends = ended_by (first_trap ends) (list_any is_stopped ends)
+
 abbrev pub shares_of : Spent → Shares
 shares_of s = record {
   words = s.words;
@@ -46,7 +82,7 @@ shares_of s = record {
 abbrev pub row_from : (nodes : ℕ) → List End → List Spent → (time steps : ℕ) → Row
 row_from nodes ends spent time steps = record {
   nodes = nodes;
-  stopped = list_any is_stopped ends;
+  ended = ended_of ends;
   time = time;
   steps = steps;
   spent = shares_of (total_spent spent);
@@ -79,13 +115,17 @@ AreRowsOf inputs budget costs counts rows = ⊥
 
 -- 2. The base
 
--- so many steps, where the processor ends by itself
-abbrev pub base_from : (steps : ℕ) → End → Option ℕ
-base_from steps (Exited exit) = Some steps
-base_from steps (Stopped budget) = None
+-- the number of steps, where the processor ends by its exit call
+abbrev pub base_by : (steps : ℕ) → Ended → Base
+base_by steps ended.Whole = base.Steps steps
+base_by steps (ended.Trapped t) = base.Trapped t
+base_by steps ended.Stopped = base.Stopped
+
+abbrev pub base_from : (steps : ℕ) → End → Base
+base_from steps e = base_by steps (ended_of (e ∷ []))
 
 -- THE BASE is how many steps the original makes on one processor and one memory, as `one` runs it
-pub record IsBaseOf (inputs : Inputs) (budget : ℕ) (base : Option ℕ) : Type 0 where
+pub record IsBaseOf (inputs : Inputs) (budget : ℕ) (base : Base) : Type 0 where
   pub elf : Elf
   pub plan : List PlanEntry
   pub work : Work
@@ -111,7 +151,7 @@ parameters_of a = record {
 
 -- of the runs on 1, 2, 4 and so on to the most nodes
 pub record IsSpeedupPage (inputs : Inputs) (a : TimeArguments) (text : List ℕ) : Type 0 where
-  pub base : Option ℕ
+  pub base : Base
   pub is_base : IsBaseOf inputs a.budget base
   pub rows : List Row
   pub are_rows : AreRowsOf inputs a.budget (costs_of a) (counts_to a.nodes) rows

@@ -53,7 +53,7 @@ abbrev pub costs_of : TimeArguments → Costs
 costs_of a = record { latency = a.latency; line = a.line; handling = a.handling }
 
 -- The text of a run by a clock: that of its outcome, as `sim` puts the one of a run by an order;
--- behind it what the nodes have spent their time on, which adds up to the time of the run, and how
+-- after it what the nodes have spent their time on, which adds up to the time of the run, and how
 -- many steps of the original the run makes, by the plan of the rewriting that was asked for.
 pub record IsTimeText (inputs : Inputs) (nodes budget : ℕ) (costs : Costs) (text : List ℕ) : Type 0
   where

@@ -109,7 +109,7 @@ fn serve_prepared<S: Source, O: Sink>(
         budget: prepared.budget,
     };
     let plan = prepared.rewritten.plan();
-    let megabytes = memory.number();
+    let megabytes = memory.as_u32();
     let mut run = RecordedRun::new(alloc, &work, plan, code, kept, megabytes, picks)?;
     match serve(alloc, &mut run, source, out) {
         Ok(_) => Ok(()),

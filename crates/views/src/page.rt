@@ -98,8 +98,8 @@ fn page_of_run(
     Ok(page)
 }
 
-/// The events of a whole run that a page shows, from its start on. None is made behind the one that
-/// fills the page, nor behind the first that is later than all asked for.
+/// The events of a whole run that a page shows, from its start on. None is made after the one that
+/// fills the page, nor after the first that is later than all asked for.
 fn shown_events(
     alloc: Global,
     tracer: &mut Tracer<'_>,

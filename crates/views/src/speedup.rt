@@ -22,18 +22,18 @@ use crate::time::run_by_clock;
 use command_line::TimeArguments;
 use dsm_io::Files;
 use elf32_read::Elf;
-use exec_map::End;
+use exec_map::{End, Exit};
 use judged_files::input::{Inputs, elf_of};
 use judged_files::refusal::Subject;
 use lone_run::{LoneRun, run_alone};
 use prepared_run::prepare;
 use run_limits::NodeCount;
-use speedup_page::{Parameters, Row, Shares, SpeedupPage, push_page};
+use speedup_page::{Base, Ended, Parameters, Row, Shares, SpeedupPage, Trap, push_page};
 use std::alloc::{AllocError, Global};
 use text_output::{Failure, write_file};
 use timed_sim::{Timed, total_spent};
 
-/// Writes the page of the speed-up of the executable in a file, on 1 node up to so many, into
+/// Writes the page of the speed-up of the executable in a file, on 1 node up to a number, into
 /// another file.
 pub(crate) fn write_speedup<F: Files>(
     alloc: Global,
@@ -76,7 +76,7 @@ fn page_of(
 fn page_with(
     alloc: Global,
     arguments: &TimeArguments<'_>,
-    base: Option<u64>,
+    base: Base,
     rows: &[Row],
 ) -> Result<Vec<u8>, AllocError>
     requires { All IsFit rows.now }
@@ -100,22 +100,22 @@ fn parameters_of(arguments: &TimeArguments<'_>) -> Parameters
     Parameters {
         nodes: arguments.nodes,
         budget: arguments.budget,
-        latency: arguments.latency.number(),
-        line: arguments.line.number(),
-        handling: arguments.handling.number(),
+        latency: arguments.latency.as_u32(),
+        line: arguments.line.as_u32(),
+        handling: arguments.handling.as_u32(),
         layout: arguments.layout.is_some(),
         verified: arguments.verified.is_some(),
         no_batch: arguments.no_batch,
     }
 }
 
-/// How many steps the original makes on one processor, where it ends by itself.
+/// How many steps the original makes on one processor.
 fn base_of(
     alloc: Global,
     elf: &Elf<'_>,
     inputs: &Inputs<'_>,
     arguments: &TimeArguments<'_>,
-) -> Result<Option<u64>, Failure>
+) -> Result<Base, Failure>
     requires reads { ReadsAs (bytes_of inputs.now).executable elf.now }
     ensures ok { IfOk result (IsBaseOf (bytes_of inputs.now) arguments.now.budget) }
     ensures refused { IfErr result (IsRefusal (IsRunRefused (bytes_of inputs.now))
@@ -126,13 +126,14 @@ fn base_of(
     Ok(base_from(&run))
 }
 
-/// How many steps such a run has, where it ended by itself.
-fn base_from(run: &LoneRun) -> Option<u64>
+/// The base of such a run: its steps, where it ended by its exit call.
+fn base_from(run: &LoneRun) -> Base
     ensures { result ≡ model.base_from run.now.steps run.now.end }
 {
-    match run.end {
-        End::Exited(_) => Some(run.steps),
-        End::Stopped(_) => None,
+    match ended_of(&[run.end]) {
+        Ended::Whole => Base::Steps(run.steps),
+        Ended::Trapped(trap) => Base::Trapped(trap),
+        Ended::Stopped => Base::Stopped,
     }
 }
 
@@ -173,7 +174,7 @@ fn counts_to(alloc: Global, most: NodeCount) -> Result<Vec<NodeCount>, AllocErro
 {
     let mut counts = Vec::new(alloc);
     for number in [1, 2, 4, 8] {
-        if number < u64::from(most.number()) {
+        if number < most.number() {
             push_count(&mut counts, number)?;
         }
     }
@@ -196,7 +197,7 @@ fn push_count(counts: &mut Vec<NodeCount>, number: u64) -> Result<(), AllocError
     }
 }
 
-/// The row of so many nodes.
+/// The row of `nodes` nodes.
 fn row_of(
     alloc: Global,
     elf: &Elf<'_>,
@@ -213,10 +214,10 @@ fn row_of(
 {
     let prepared = prepare(alloc, elf, inputs, nodes, arguments.budget)?;
     let timed = run_by_clock(alloc, &prepared, arguments)?;
-    Ok(row_from(nodes.number(), &timed))
+    Ok(row_from(nodes.as_u8(), &timed))
 }
 
-/// The row of a run by a clock on so many nodes.
+/// The row of a run by a clock on `nodes` nodes.
 fn row_from(nodes: u8, timed: &Timed) -> Row
     requires few { length timed.now.spent.items ≤ 16 }
     requires sums { All (λ s. clock_of s ≡ timed.now.time) timed.now.spent.items }
@@ -229,7 +230,7 @@ fn row_from(nodes: u8, timed: &Timed) -> Row
     let spent = total_spent(&timed.spent);
     Row {
         nodes,
-        stopped: is_any_stopped(&timed.outcome.ends),
+        ended: ended_of(&timed.outcome.ends),
         time: timed.time,
         steps: timed.steps,
         spent: Shares {
@@ -239,6 +240,49 @@ fn row_from(nodes: u8, timed: &Timed) -> Row
             handling: spent.handling,
             idle: spent.idle,
         },
+    }
+}
+
+/// How a run ended whose processors ended so.
+fn ended_of(ends: &[End]) -> Ended
+    ensures { result ≡ model.ended_of ends.now }
+{
+    match first_trap(ends) {
+        Some(trap) => Ended::Trapped(trap),
+        None => {
+            if is_any_stopped(ends) {
+                Ended::Stopped
+            } else {
+                Ended::Whole
+            }
+        }
+    }
+}
+
+/// The first trap of processors that ended so, if one ended by a trap.
+fn first_trap(ends: &[End]) -> Option<Trap>
+    ensures { result ≡ model.first_trap ends.now }
+{
+    for end in ends {
+        if let Some(trap) = trap_of(*end) {
+            return Some(trap);
+        }
+    }
+    None
+}
+
+/// The trap by which a processor ended, if it did.
+fn trap_of(end: End) -> Option<Trap>
+    ensures { result ≡ model.trap_of end }
+{
+    match end {
+        End::Exited(Exit::Code(_)) => None,
+        End::Exited(Exit::Ebreak(_)) => Some(Trap::Ebreak),
+        End::Exited(Exit::Illegal(_)) => Some(Trap::Illegal),
+        End::Exited(Exit::Misaligned(_)) => Some(Trap::Misaligned),
+        End::Exited(Exit::Access(_)) => Some(Trap::Access),
+        End::Exited(Exit::Fetch(_)) => Some(Trap::Fetch),
+        End::Stopped(_) => None,
     }
 }
 

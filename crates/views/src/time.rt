@@ -76,9 +76,9 @@ fn costs_of(arguments: &TimeArguments<'_>) -> Costs
     ensures range { AreInRange result }
 {
     Costs {
-        latency: arguments.latency.number(),
-        line: arguments.line.number(),
-        handling: arguments.handling.number(),
+        latency: arguments.latency.as_u32(),
+        line: arguments.line.as_u32(),
+        handling: arguments.handling.as_u32(),
     }
 }
 

@@ -161,7 +161,7 @@ fn put_run<O: Sink>(
 }
 
 /// Puts the lines of the events of a whole run that are shown, from its start on. None is made
-/// behind the first that is later than all asked for.
+/// after the first that is later than all asked for.
 fn put_events<O: Sink>(
     alloc: Global,
     program: &Program<'_>,

@@ -32,7 +32,6 @@ returns-clause-counts c = λ work plan told i valid low.
     let said : slice_index_or (counts_after work (events_told told)) i no_counts ≡ counts_from i trace no_counts =
     ap (λ cs. slice_index_or cs i no_counts) (sym (c.trace_law.ensures.counts work plan told))
     ∙ get_or-map-range_with_len (λ k. counts_from k trace no_counts) 0 work.layout.nodes i i no_counts low (omega arith) in
-    subst (AreSumsTo (blocks work.layout) i trace) (sym said)
-    (sums (blocks work.layout) i trace
+    subst (AreSumsTo (blocks work.layout) i trace) (sym said) (sums (blocks work.layout) i trace
     (run_known work plan (λ b line is. (c.layout_law.ensures.found work.layout b line valid is).0)
     (map what_told told) (opening_core work)))

@@ -11,8 +11,7 @@ loop-block-preserved c = record {
       let b = c.loop-block.block in
       let cost : c.in_ok-cost.cost ≡ cost_of c.args.nodes b seen =
       c.in_ok-cost.ensures (λ b i. block_counts b i seen) (λ b. misses_of b seen) h in
-      c.in_ok-push_costly.ensures
-      ∙ (λ t. c.loop-block.invariant.value seen h t
+      c.in_ok-push_costly.ensures ∙ (λ t. c.loop-block.invariant.value seen h t
       ++ cond (ltb 0 (cost t)) (record { block = b; cost = cost t } ∷ []) [])
       ∙ sym (filter_of_map_range_with_len_more (λ r. ltb 0 r.cost) (λ k. rank_of c.args.nodes k seen)
       0 b b (omega arith));

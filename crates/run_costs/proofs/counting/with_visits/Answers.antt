@@ -5,8 +5,8 @@ use Rattle.std.proofs.lemmas.List.FromFn.{length-map-range_with_len}
 use Rattle.check_costs.specs.declared.labels.Label.{Label}
 use Rattle.check_costs.specs.Tally.{Executed, tally_in, tally_of}
 use Rattle.run_trace.specs.Tracing.{kinds_traced}
-use Rattle.run_trace.specs.node_machine.word_visits.Visits.{WordVisits, never}
-use Rattle.run_trace.specs.node_machine.word_visits.VisitTables.{visits_of}
+use Rattle.word_visits.specs.Visits.{WordVisits, never}
+use Rattle.word_visits.specs.VisitTables.{visits_of}
 use Rattle.run_costs.specs.Counting.{word_by, words_by}
 use Rattle.run_costs.proofs.Labels.{found_within}
 use Rattle.run_costs.proofs.Visited.{words_by_more}

@@ -3,7 +3,7 @@ use Rattle.std.specs.Prelude.{slice_index_or}
 use Rattle.check_costs.specs.declared.labels.Label.{Label}
 use Rattle.check_costs.specs.Given.{IsTallyOf}
 use Rattle.check_costs.specs.Tally.{Executed}
-use Rattle.run_trace.specs.node_machine.word_visits.VisitTables.{visits_of}
+use Rattle.word_visits.specs.VisitTables.{visits_of}
 use Rattle.run_trace.specs.Tracing.{kinds_traced}
 use Rattle.run_costs.specs.Counting.{word_by, words_by}
 use Rattle.run_costs.proofs.counting.with_visits.Given as goal

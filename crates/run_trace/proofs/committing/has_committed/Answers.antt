@@ -1,7 +1,7 @@
 -- By what was seen before the word, and of its node behind it.
 use Rattle.std.proofs.Common.{◌+◌, ◌||◌, ap, ◌∙◌}
-use Rattle.node_model.specs.Node.{Node, Phase, word_outcome, end_of, standing_in, standing_of}
-use Rattle.node_model.specs.Turns.{after_wants}
+use Rattle.replay.specs.node_model.Node.{Node, Phase, word_outcome, end_of, standing_in, standing_of}
+use Rattle.replay.specs.node_model.Turns.{after_wants}
 use Rattle.replay.specs.node_machine.NodeState.{work_of}
 use Rattle.replay.specs.rewriting_law.CoreRun.{is_exit}
 use Rattle.run_trace.specs.Looks.{reached_by, is_exited, waits_in, commits_when}
@@ -25,6 +25,5 @@ returns c = λ plan n sight printed node.
     ∙ ap waits_in (c.standing.ensures.value ∙ ap (standing_of work) behind)
     ∙ ap (λ (p : Phase). waits_in (standing_in work t.node p)) phase
     ∙ wait_seen work t.node work.budget (n.executed + 1) o.move in
-    c.commits.ensures
-    ∙ (λ i. exits i || commits_when (sight.kind i) (reached i) (waits i))
+    c.commits.ensures ∙ (λ i. exits i || commits_when (sight.kind i) (reached i) (waits i))
     ∙ ap (λ b. is_exit o.move || b) (commit_is _ o)

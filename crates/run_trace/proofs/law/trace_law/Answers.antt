@@ -1,6 +1,6 @@
 use Rattle.std.proofs.Common.{map, ap, sym, ◌∙◌}
 use Rattle.std.specs.List.{range_with_len}
-use Rattle.node_model.specs.Core.{opening_core}
+use Rattle.replay.specs.node_model.Core.{opening_core}
 use Rattle.replay.specs.Told.{what_told}
 use Rattle.run_trace.specs.Trace.{trace_of}
 use Rattle.run_trace.proofs.Counting.{run_counts}

@@ -1,6 +1,6 @@
 -- By each demand.
 use Rattle.std.proofs.Common.{sym, refl, subst}
-use Rattle.node_model.specs.Node.{native}
+use Rattle.replay.specs.node_model.Node.{native}
 use Rattle.replay.specs.node_machine.NodeState.{work_of, node_of}
 use Rattle.run_trace.specs.Looks.{IsReach}
 use Rattle.run_trace.proofs.reach.reach_by.Goals as goal

@@ -1,7 +1,7 @@
 -- By what its demand, or its call, reaches.
 use Rattle.std.proofs.Common.{sym, ap₂, subst, ◌∙◌}
-use Rattle.rv32_step.specs.Demands.{demand_of, call_step}
-use Rattle.node_model.specs.Node.{native, make_call, execute}
+use Rattle.replay.specs.node_model.rv32_step.Demands.{demand_of, call_step}
+use Rattle.replay.specs.node_model.Node.{native, make_call, execute}
 use Rattle.replay.specs.node_machine.NodeState.{work_of, node_of}
 use Rattle.run_trace.specs.Looks.{IsReach}
 use Rattle.run_trace.proofs.reach.reach_of_word.Goals as goal

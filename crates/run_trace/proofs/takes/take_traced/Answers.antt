@@ -2,10 +2,10 @@
 use Rattle.std.proofs.Common.{◌-◌, ◌||◌, not, eqb, cond, length, take, refl, sym, ap, ◌∙◌}
 use Rattle.std.specs.Prelude.{is_some}
 use Rattle.std.specs.Option.{option_map}
-use Rattle.home_directory.specs.dsm_messages.Headers.{header_of}
-use Rattle.node_model.specs.declared.NodeCounts.{NodeCounts}
-use Rattle.node_model.specs.Node.{Node, counts_after}
-use Rattle.node_model.specs.Turns.{after_message, take_turn, journaled}
+use Rattle.replay.specs.node_model.home_directory.dsm_messages.Headers.{header_of}
+use Rattle.replay.specs.node_model.declared.NodeCounts.{NodeCounts}
+use Rattle.replay.specs.node_model.Node.{Node, counts_after}
+use Rattle.replay.specs.node_model.Turns.{after_message, take_turn, journaled}
 use Rattle.run_trace.specs.declared.takes.Sight.{Sight}
 use Rattle.run_trace.specs.Traced.{take_traced, stops, ends_anew}
 use Rattle.run_trace.specs.Taking.{sight_of, has_items, is_changed}

@@ -3,9 +3,9 @@ use Rattle.std.proofs.Common.{◌+◌, ◌-◌, ◌||◌, cond, length, take, sy
 use Rattle.std.specs.Prelude.{is_some}
 use Rattle.std.specs.Option.{option_map}
 use Rattle.block_layout.specs.Layout.{Shape}
-use Rattle.node_model.specs.declared.NodeCounts.{NodeCounts}
-use Rattle.node_model.specs.Node.{Node, Phase, word_outcome, end_of, standing_in, standing_of, counts_after}
-use Rattle.node_model.specs.Turns.{is_ended, after_wants}
+use Rattle.replay.specs.node_model.declared.NodeCounts.{NodeCounts}
+use Rattle.replay.specs.node_model.Node.{Node, Phase, word_outcome, end_of, standing_in, standing_of, counts_after}
+use Rattle.replay.specs.node_model.Turns.{is_ended, after_wants}
 use Rattle.replay.specs.rewriting_law.CoreRun.{is_exit}
 use Rattle.run_trace.specs.Looks.{reached_by, accessed_at, is_exited, waits_in, commits_when}
 use Rattle.run_trace.proofs.WordEnds.{turn_node, wants_phase, turn_printed, exit_seen, wait_seen, access_is, commit_is, word_others, sends_cut, end_ends}

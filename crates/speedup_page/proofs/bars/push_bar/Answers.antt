@@ -13,8 +13,7 @@ returns c =
     let three = c.extend_from_slice.new.self.items in
     let spent = c.args.row.now.spent in
     let r = c.push_pieces.result in
-    ok_behind r old one _ _ _ c.in_ok-push_numbered.ensures
-    (ok_behind r one two _ _ _
+    ok_behind r old one _ _ _ c.in_ok-push_numbered.ensures (ok_behind r one two _ _ _
     (c.in_ok-push_numbered-2.ensures ∙ ap (λ n. one ++ numbered (codes "'>") n) c.from.ensures)
     (ok_behind r two three _ _ _ c.in_ok-extend_from_slice.ensures.items
     (on_ok_weaker r (λ e. e ∙ ap (λ n. three ++ pieces_text c.args.y n c.args.row.now.steps spent) c.whole.ensures.value)

@@ -14,8 +14,7 @@ returns c =
     let r = c.extend_from_slice-3.result in
     ok_behind r old one _ _ _ c.in_ok-extend_from_slice.ensures.items
     (ok_behind r one two _ _ _ c.in_ok-extend_from_slice-2.ensures.items
-    (ok_behind r two three _ _ _ c.in_ok-push_numbered.ensures
-    (ok_behind r three four _ _ _
+    (ok_behind r two three _ _ _ c.in_ok-push_numbered.ensures (ok_behind r three four _ _ _
     (c.in_ok-push_numbered-2.ensures ∙ ap (λ n. three ++ numbered (codes "' width='") n) c.saturating_sub.ensures)
     (ok_behind r four five _ _ _ c.in_ok-push_numbered-3.ensures
     (ok_last r five _ _ c.extend_from_slice-3.ensures.items)))))

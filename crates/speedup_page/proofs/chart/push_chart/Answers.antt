@@ -9,8 +9,7 @@ returns c =
     let one = c.push_fixed.new.out.items in
     let two = c.push_drawn.new.out.items in
     let r = c.extend_from_slice.result in
-    ok_behind r old one _ _ _ c.in_ok-push_fixed.ensures
-    (ok_behind r one two _ _ _
+    ok_behind r old one _ _ _ c.in_ok-push_fixed.ensures (ok_behind r one two _ _ _
     (c.in_ok-push_drawn.ensures
     ∙ ap (λ n. one ++ drawn_text c.args.most n c.args.base c.args.rows.now) c.room_of.ensures.value)
     (ok_last r two _ _ c.extend_from_slice.ensures.items))

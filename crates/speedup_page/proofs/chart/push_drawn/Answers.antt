@@ -10,5 +10,4 @@ returns c =
     let r = c.push_rows.result in
     ok_behind r old s1 _ _ _ c.in_ok-push_grid.ensures
     (ok_behind r s1 s2 _ _ _ c.in_ok-push_ideal.ensures
-    (ok_behind r s2 s3 _ _ _ c.in_ok-push_line.ensures
-    c.push_rows.ensures))
+    (ok_behind r s2 s3 _ _ _ c.in_ok-push_line.ensures c.push_rows.ensures))

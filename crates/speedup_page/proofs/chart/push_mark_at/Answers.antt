@@ -15,8 +15,7 @@ returns c =
     let r = c.extend_from_slice-2.result in
     ok_behind r old s1 _ _ _ c.in_ok-push_numbered.ensures
     (ok_behind r s1 s2 _ _ _ c.in_ok-push_numbered-2.ensures
-    (ok_behind r s2 s3 _ _ _ c.in_ok-push_numbered-3.ensures
-    (ok_behind r s3 s4 _ _ _
+    (ok_behind r s2 s3 _ _ _ c.in_ok-push_numbered-3.ensures (ok_behind r s3 s4 _ _ _
     (c.in_ok-push_numbered-4.ensures ∙ ap (λ n. s3 ++ numbered (codes "' y='") n) c.beside.ensures)
     (ok_behind r s4 s5 _ _ _ c.in_ok-extend_from_slice.ensures.items
     (ok_behind r s5 s6 _ _ _ c.in_ok-push_hundredths.ensures

@@ -8,5 +8,4 @@ returns c =
     let s2 = c.push_if-2.new.out.items in
     let r = c.push_if-3.result in
     ok_behind r old s1 _ _ _ c.in_ok-push_if.ensures
-    (ok_behind r s1 s2 _ _ _ c.in_ok-push_if-2.ensures
-    c.push_if-3.ensures)
+    (ok_behind r s1 s2 _ _ _ c.in_ok-push_if-2.ensures c.push_if-3.ensures)

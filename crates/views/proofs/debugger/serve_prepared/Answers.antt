@@ -27,8 +27,7 @@ returns-in_err-picks-clause-failure g c = λ inputs asked.
     c.in_err-picks.ensures.refused))
 
 pub new-requires-clause-interleaved : goal.new-requires-clause-interleaved
-new-requires-clause-interleaved g c =
-    c.in_ok-picks.ensures.allowed
+new-requires-clause-interleaved g c = c.in_ok-picks.ensures.allowed
 
 pub returns-in_err-run-clause-failure : goal.returns-in_err-run-clause-failure
 returns-in_err-run-clause-failure g c = λ inputs asked.

@@ -21,9 +21,9 @@ row_from-requires-clause-few c =
     let work = work_for p in
     let t = c.in_ok-timed.timed in
     let o = outcome_of t.outcome in
-    few_spent work p.rewritten.plan (costs_of a) o t.spent.items t.time t.steps c.number.result
+    few_spent work p.rewritten.plan (costs_of a) o t.spent.items t.time t.steps c.as_u8.result
     c.in_ok-timed.ensures.outcome
-    (c.in_ok-prepared.ensures.asked.count ∙ sym c.number.ensures.value) c.number.ensures.range.1
+    (c.in_ok-prepared.ensures.asked.count ∙ sym c.as_u8.ensures.value) c.as_u8.ensures.range.1
 
 pub returns-clause-ok : goal.returns-clause-ok
 returns-clause-ok c =
@@ -37,4 +37,4 @@ returns-clause-ok c =
     is_row inputs n a.budget (costs_of a) p.program p.rewritten.plan work o t.spent.items t.time t.steps
     c.row_from.result c.in_ok-prepared.ensures.runs c.in_ok-prepared.ensures.asked
     c.in_ok-timed.ensures.outcome c.in_ok-timed.ensures.sums
-    (c.row_from.ensures.value ∙ ap (λ k. row_from k o.ends t.spent.items t.time t.steps) c.number.ensures.value)
+    (c.row_from.ensures.value ∙ ap (λ k. row_from k o.ends t.spent.items t.time t.steps) c.as_u8.ensures.value)

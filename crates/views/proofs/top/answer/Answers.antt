@@ -77,8 +77,7 @@ returns-in_ok-read-in-Code-clause-failure g c =
     subst (λ n. AreInputs files n inputs) c.code_files.ensures
     (subst (AreInputs files (names_of c.code_files.result)) (sym c.lend.ensures.value)
     c.in_ok-read-in-Code.ensures.ok) in
-    rw c.in-Code.is
-    (err_as (FailsAs (IsTextOfCode inputs) (IsCodeless inputs) IsNever before now)
+    rw c.in-Code.is (err_as (FailsAs (IsTextOfCode inputs) (IsCodeless inputs) IsNever before now)
     (IsFailure (Code a) files files_now before now) c.put_code.result
     (λ f h. code_fails a files files_now before now inputs f held h) c.put_code.ensures.failure)
 
@@ -202,8 +201,7 @@ returns-in_ok-read-in-Trace-clause-failure g c =
     subst (λ n. AreInputs files n inputs) c.run_files.ensures
     (subst (AreInputs files (names_of c.run_files.result)) (sym c.lend-in-Trace.ensures.value)
     c.in_ok-read-in-Trace.ensures.ok) in
-    rw c.in-Trace.is
-    (err_as (FailsAsRun (IsTextOfTrace inputs s) inputs before now)
+    rw c.in-Trace.is (err_as (FailsAsRun (IsTextOfTrace inputs s) inputs before now)
     (IsFailure (Trace run a.from a.to a.block a.node) files files_now before now) c.put_trace.result
     (λ f h. run_fails (Trace run a.from a.to a.block a.node) run
     (λ i. IsTextOfTrace i s) (trace_of_run run a.from a.to a.block a.node) files files_now before now
@@ -303,8 +301,7 @@ returns-in_ok-read-in-Blocks-clause-failure g c =
     subst (λ n. AreInputs files n inputs) c.run_files-in-Blocks.ensures
     (subst (AreInputs files (names_of c.run_files-in-Blocks.result)) (sym c.lend-in-Blocks.ensures.value)
     c.in_ok-read-in-Blocks.ensures.ok) in
-    rw c.in-Blocks.is
-    (err_as (FailsAsRun (IsTextOfBlocks inputs) inputs before now)
+    rw c.in-Blocks.is (err_as (FailsAsRun (IsTextOfBlocks inputs) inputs before now)
     (IsFailure (Blocks run) files files_now before now) c.put_blocks.result
     (λ f h. run_fails (Blocks run) run IsTextOfBlocks (blocks_of_run run) files files_now before now inputs
     f held h) c.put_blocks.ensures.failure)
@@ -582,5 +579,4 @@ returns-in-Speedup-clause-left g c =
     c.write_speedup.ensures.failure)
 
 pub unreachable-requires : goal.unreachable-requires
-unreachable-requires g c =
-    c.requires _ _ (ap meaning_of_view c.in-Gdb.is)
+unreachable-requires g c = c.requires _ _ (ap meaning_of_view c.in-Gdb.is)

@@ -13,5 +13,4 @@ returns-in-Word-clause-writes c =
     on_ok_weaker c.add_access.result
     (λ h writes before b d within. subst (AreWritersOf (slice_index_or c.add_access.new.self.blocks.items b d))
     (accessed writes node b word.access ∙ ap (λ w. writes b ++ written_by b node (what_of w)) (sym c.in-Word.is))
-    (h writes before b d within))
-    c.add_access.ensures.writes
+    (h writes before b d within)) c.add_access.ensures.writes

@@ -13,8 +13,7 @@ returns-clause-more c =
     let x = passed_of word in
     let s = c.args.self.now in
     let free = plain_free _ (record { wants = refl; tally = refl; sends = refl; printed = refl; end = refl }) in
-    on_ok_weaker c.add_access.result
-    (λ shares seen h. record {
+    on_ok_weaker c.add_access.result (λ shares seen h. record {
       count = h.count;
       costs = costs_free s.costs.blocks.items seen x free h.costs;
       totals = totals_free s.layout.now.nodes s.totals.nodes.items seen x free h.totals;
@@ -22,5 +21,4 @@ returns-clause-more c =
       sharing = λ b d within. subst (AreWritersOf (slice_index_or c.add_access.new.self.blocks.items b d))
           (accessed (λ b. writes_of b seen) word.node b (Some word.access) ∙ sym (writes_more b seen x))
           (shares (λ b. writes_of b seen) h.sharing b d within);
-    })
-    c.add_access.ensures.writes
+    }) c.add_access.ensures.writes

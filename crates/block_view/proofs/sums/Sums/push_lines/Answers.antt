@@ -46,10 +46,8 @@ returns c = λ seen h.
           c.in_ok-push_blocks.ensures.ascending);
       text = c.in_ok-push_blocks.ensures.text
           ∙ ap (λ rs. c.push_head.new.out.items ++ block_lines layout symbols (kept_in c.args.self.now) rs)
-          c.deref.ensures.value
-          ∙ ap (λ x. c.push_head.new.out.items ++ x)
+          c.deref.ensures.value ∙ ap (λ x. c.push_head.new.out.items ++ x)
           (lines_as layout symbols m (kept_in c.args.self.now) (λ b. section_of b seen (sites_in items b)) ranked
-          c.in_ok-ranked.ensures.below said)
-          ∙ ap (λ o. o ++ text) c.in_ok-push_head.ensures
+          c.in_ok-ranked.ensures.below said) ∙ ap (λ o. o ++ text) c.in_ok-push_head.ensures
           ∙ append_assoc old head text;
     }

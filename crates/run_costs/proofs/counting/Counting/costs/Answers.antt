@@ -5,7 +5,7 @@ use Rattle.std.proofs.lemmas.List.Sums.{sum_by-append}
 use Rattle.check_costs.specs.Tally.{Executed, first_label, tally_of}
 use Rattle.check_costs.proofs.Alike.{same_tally}
 use Rattle.run_trace.specs.replay.dsm_core.CoreParts.{CoreParts, core_of}
-use Rattle.run_trace.specs.node_machine.word_visits.VisitTables.{visits_of}
+use Rattle.word_visits.specs.VisitTables.{visits_of}
 use Rattle.run_trace.specs.Tracing.{kinds_traced}
 use Rattle.run_costs.specs.Counting.{plan_in, word_by, words_by, words_seen, words_visited, work_in}
 use Rattle.run_costs.proofs.Counted.{nodes_seen}
@@ -40,5 +40,4 @@ pub returns-clause-nodes : goal.returns-clause-nodes
 returns-clause-nodes c = λ symbols seen h.
     c.in_ok-nodes.ensures
     ∙ ap (λ (p : CoreParts). map (λ i. ((core_of p).nodes i).counts) (range_with_len 0 p.layout.nodes))
-    c.core.ensures.value
-    ∙ nodes_seen c.args.self.tracer seen h.traced
+    c.core.ensures.value ∙ nodes_seen c.args.self.tracer seen h.traced

@@ -24,8 +24,7 @@ returns-clause-start c =
     let e = c.in_ok-tracer.ensures in
     let v = c.in_ok-no_visits.ensures in
     let functions = sym (length-map c.functions.result.now symbol_of) ∙ ap length c.functions.ensures in
-    started c.args.symbols.now (work_in c.args.work.now) c.args.plan.now c.args.code.now _
-    (record {
+    started c.args.symbols.now (work_in c.args.work.now) c.args.plan.now c.args.code.now _ (record {
       tracer = c.in_ok-tracer.tracer;
       labels = c.in_ok-labels_of.field-0;
       visits = c.in_ok-no_visits.field-0;

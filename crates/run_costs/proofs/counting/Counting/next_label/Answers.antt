@@ -33,5 +33,4 @@ returns-clause-function c =
     let at = c.at.ensures.value ∙ ap (λ (n : Node). n.lane.at) node in
     label_fits symbols (work_in s) (plan_in s) (node_in s c.args.node).lane.at c.label_at.result _ _
     (label_is symbols (work_in s) (plan_in s) s.labels.items c.deref.result.now c.label_at.result c.at.result
-    (node_in s c.args.node).lane.at c.deref.ensures.value h.labels at c.label_at.ensures)
-    h.tallied
+    (node_in s c.args.node).lane.at c.deref.ensures.value h.labels at c.label_at.ensures) h.tallied

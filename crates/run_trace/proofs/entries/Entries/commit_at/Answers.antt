@@ -10,7 +10,6 @@ returns-in-Some-entry-clause-kind c = λ program code.
     let plan = c.args.plan.now in
     let e = c.in-Some-entry.entry in
     let own = c.set.ensures.value ∙ set_one c.args.self.now.own e c.requires.entries.own in
-    c.commit_at.ensures.value program code
-    ∙ ap (λ l. commit_at program l (Some place)) own
+    c.commit_at.ensures.value program code ∙ ap (λ l. commit_at program l (Some place)) own
     ∙ commit_one program plan place e (sym c.entry.ensures ∙ c.in-Some-entry.is)
     ∙ ap (commit_at program plan) (sym c.in-Some.is)

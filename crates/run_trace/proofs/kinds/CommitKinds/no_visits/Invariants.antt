@@ -1,5 +1,5 @@
 use Rattle.std.proofs.Common.{◌≡◌, ◌++◌, drop, map}
-use Rattle.replay.specs.node_machine.word_visits.VisitTables.{AreVisitsIn, visits_of}
+use Rattle.word_visits.specs.VisitTables.{AreVisitsIn, visits_of}
 use Rattle.run_trace.specs.Visited.{first_visits}
 use Rattle.run_trace.proofs.kinds.CommitKinds.no_visits.Given as goal
 

@@ -1,5 +1,5 @@
 use Rattle.std.proofs.Common.{◌≡◌, ◌++◌, drop, map}
-use Rattle.replay.specs.node_machine.word_visits.TallyTables.{AreTalliesIn, tallies_of}
+use Rattle.word_visits.specs.TallyTables.{AreTalliesIn, tallies_of}
 use Rattle.run_trace.specs.Visited.{tally_by}
 use Rattle.run_trace.proofs.kinds.CommitKinds.tallies.Given as goal
 

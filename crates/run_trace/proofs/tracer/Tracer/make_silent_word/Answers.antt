@@ -1,6 +1,6 @@
 -- A silent word, and whether it commits.
 use Rattle.std.proofs.Common.{false, refl, sym, ap, ◌∙◌, arith}
-use Rattle.node_model.specs.Node.{Node, word_outcome}
+use Rattle.replay.specs.node_model.Node.{Node, word_outcome}
 use Rattle.replay.specs.dsm_core.CoreParts.{CoreParts, work_of, core_of}
 use Rattle.replay.specs.Way.{core_in}
 use Rattle.replay.proofs.Runs.{running_of}

@@ -1,7 +1,7 @@
 -- Words of a stretch, and which of them commit.
 use Rattle.std.proofs.Common.{refl}
 use Rattle.replay.specs.dsm_core.CoreParts.{core_of}
-use Rattle.replay.specs.node_machine.word_visits.VisitTables.{visits_of}
+use Rattle.word_visits.specs.VisitTables.{visits_of}
 use Rattle.replay.specs.Way.{core_in}
 use Rattle.replay.proofs.Runs.{running_of}
 use Rattle.run_trace.specs.declared.tracer.Tracer.{Tracer}
@@ -15,8 +15,8 @@ pub make_silent_words-requires-clause-running : goal.make_silent_words-requires-
 make_silent_words-requires-clause-running c =
     running_of c.args.self.now.replayer c.requires.traced.1.before c.requires.traced.1.made
 
-pub make_silent_words-requires-clause-table : goal.make_silent_words-requires-clause-table
-make_silent_words-requires-clause-table c = c.requires.visits.micros
+pub make_silent_words-requires-clause-goes_over : goal.make_silent_words-requires-clause-goes_over
+make_silent_words-requires-clause-goes_over c = c.requires.visits.micros
 
 pub returns-clause-made : goal.returns-clause-made
 returns-clause-made c = λ seen h.
@@ -34,8 +34,8 @@ returns-clause-commits c =
     let p = e.passed in
     let may = may_last (work_traced t) (core_of (core_in c.make_silent_words.new.self)) p.last i p.alike p.may in
     commit_by_number (work_traced t) (plan_traced t) t.kinds i c.make_silent_words.result
-    (core_of (core_in t.replayer)) p.last (visits_of c.args.visits.now) (visits_of c.make_silent_words.new.visits)
-    h.kinds c.requires.visits.look p.goes_on may e.visits
+    (core_of (core_in t.replayer)) p.last (visits_of c.args.visits.now) (visits_of c.make_silent_words.new.by)
+    h.kinds c.requires.visits.look p.goes_on may e.learns
 
 pub returns-clause-visits : goal.returns-clause-visits
 returns-clause-visits c =
@@ -43,5 +43,5 @@ returns-clause-visits c =
     let e = c.make_silent_words.ensures in
     let u : Tracer = record { replayer = c.make_silent_words.new.self; plan = t.plan; kinds = t.kinds } in
     visits_still t u c.make_silent_words.result ((core_of (core_in t.replayer)).nodes c.args.stretch.now.node)
-    c.args.visits.now c.make_silent_words.new.visits (same_by t u e.same refl refl) c.requires.visits e.table
-    e.visits
+    c.args.visits.now c.make_silent_words.new.by (same_by t u e.same refl refl) c.requires.visits e.stays
+    e.learns

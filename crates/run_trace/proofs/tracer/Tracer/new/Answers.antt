@@ -1,6 +1,6 @@
 -- Nothing was made yet.
 use Rattle.std.proofs.Common.{[], refl, subst, sym}
-use Rattle.node_model.specs.Node.{Work}
+use Rattle.replay.specs.node_model.Node.{Work}
 use Rattle.replay.specs.dsm_core.CoreParts.{work_in}
 use Rattle.run_trace.specs.Kinds.{AreKindsOf}
 use Rattle.run_trace.proofs.tracer.Tracer.new.Goals as goal

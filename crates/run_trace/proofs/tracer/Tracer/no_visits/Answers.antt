@@ -1,5 +1,5 @@
 use Rattle.std.proofs.lemmas.Result.{IfOk-weaker}
-use Rattle.replay.specs.node_machine.word_visits.VisitTables.{visits_of}
+use Rattle.word_visits.specs.VisitTables.{visits_of}
 use Rattle.run_trace.proofs.Visited.{first_are, none_yet}
 use Rattle.run_trace.proofs.tracer.Tracer.no_visits.Goals as goal
 

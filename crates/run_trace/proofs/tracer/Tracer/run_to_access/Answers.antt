@@ -1,8 +1,8 @@
 -- A word, by what it touches.
 use Rattle.std.proofs.Common.{◌||◌, false, [], ◌∷◌, ◌++◌, Some, refl, ap, sym, subst, ◌∙◌, append-nil, arith}
 use Rattle.block_layout.specs.Layout.{Shape}
-use Rattle.node_model.specs.jump_map.Maps.{old_of}
-use Rattle.node_model.specs.Node.{Work, Node, word_outcome}
+use Rattle.replay.specs.node_model.jump_map.Maps.{old_of}
+use Rattle.replay.specs.node_model.Node.{Work, Node, word_outcome}
 use Rattle.replay.specs.dsm_core.CoreParts.{CoreParts, work_of, core_of}
 use Rattle.replay.specs.Way.{core_in}
 use Rattle.run_trace.specs.declared.passed.WordPassed.{WordPassed}

@@ -1,9 +1,9 @@
 -- A take, by what is seen of it.
 use Rattle.std.proofs.Common.{◌≡◌, ◌<◌, ◌∷◌, map, ap, sym, subst, ◌∙◌}
 use Rattle.block_layout.specs.Layout.{Shape}
-use Rattle.home_directory.specs.dsm_messages.Headers.{header_of, sent_by}
-use Rattle.node_model.specs.Node.{Work, Node}
-use Rattle.node_model.specs.Core.{Event, May}
+use Rattle.replay.specs.node_model.home_directory.dsm_messages.Headers.{header_of, sent_by}
+use Rattle.replay.specs.node_model.Node.{Work, Node}
+use Rattle.replay.specs.node_model.Core.{Event, May}
 use Rattle.replay.specs.run_order.OwnRun.{node_of as event_node}
 use Rattle.replay.specs.dsm_core.declared.seen.Incoming.{Incoming}
 use Rattle.replay.specs.dsm_core.CoreParts.{CoreParts, core_of}

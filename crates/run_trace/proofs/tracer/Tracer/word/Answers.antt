@@ -1,7 +1,7 @@
 -- A word, by what is seen of it.
 use Rattle.std.proofs.Common.{◌<◌, ap, sym, subst, ◌∙◌}
-use Rattle.node_model.specs.Node.{Work, Node}
-use Rattle.node_model.specs.Core.{Event, May}
+use Rattle.replay.specs.node_model.Node.{Work, Node}
+use Rattle.replay.specs.node_model.Core.{Event, May}
 use Rattle.replay.specs.run_order.OwnRun.{node_of as event_node}
 use Rattle.replay.specs.node_machine.NodeState.{work_of as work_at}
 use Rattle.replay.specs.dsm_core.CoreParts.{CoreParts, work_of, core_of}

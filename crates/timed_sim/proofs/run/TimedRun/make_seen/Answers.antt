@@ -91,8 +91,7 @@ returns-clause-made c =
     on_ok_weaker c.pass.result
     (made_here r.costs r q c.layout.result.now (due_of c.args.due) c.standing-standing.result
     (wanted_in c.in_ok-seen.seen.wants) c.in_ok-seen.seen.sends.items c.layout.ensures.value seen.work
-    seen.event stood seen.seen.wants seen.seen.sends)
-    c.pass.ensures.times
+    seen.event stood seen.seen.wants seen.seen.sends) c.pass.ensures.times
 
 pub returns-clause-ready : goal.returns-clause-ready
 returns-clause-ready c =
@@ -109,8 +108,7 @@ returns-clause-ready c =
     let d = due_of c.args.due in
     let work = work_of r.core in
     let is = next_is work (times_in r) (core_of r.core) d c.requires.ready.in_step c.requires.next in
-    both_on_ok c.pass.result
-    (λ clocks made. record {
+    both_on_ok c.pass.result (λ clocks made. record {
       clocks = subst (λ (s : Shape). AreClocks s.nodes q.clocks) c.layout.ensures.value clocks;
       costs = c.requires.ready.costs;
       undo_logs = c.requires.ready.undo_logs
@@ -121,8 +119,7 @@ returns-clause-ready c =
           c.requires.ready.in_step made);
       counts = counts_here r q c.in_ok-seen.ensures.work (λ t. (c.add.ensures.plan t).now)
           (c.add.ensures.counts work (plan_in r) c.requires.ready.counts);
-    })
-    c.pass.ensures.clocks (returns-clause-made c)
+    }) c.pass.ensures.clocks (returns-clause-made c)
 
 pub returns-clause-plan : goal.returns-clause-plan
 returns-clause-plan c =
@@ -144,6 +141,5 @@ returns-clause-steps c =
     → AreAlike w.layout.nodes now (event_step w core e) → steps ≡ steps_made w plan core (e ∷ []))
     seen.work (c.steps_of_event-steps.ensures plan core)
     (c.sight_of-sight.ensures plan c.requires.ready.counts) seen.seen.printed seen.event in
-    on_ok_weaker c.pass.result
-    (λ clocks. c.add.ensures.steps ∙ ap (λ k. r.count.steps + k) made)
+    on_ok_weaker c.pass.result (λ clocks. c.add.ensures.steps ∙ ap (λ k. r.count.steps + k) made)
     c.pass.ensures.clocks

@@ -109,8 +109,7 @@ returns-clause-steps c = λ made.
     (subst (λ (n : Node). AreKindsOf (work_at node).program plan (work_at node).image kinds
     → IsSilentNode (work_at node) n → does ≡ commits (work_at node) plan n) c.node.ensures.value
     (c.in-Some.ensures plan)) c.requires.ready.counts.kinds silent in
-    c.add.ensures.steps
-    ∙ ap (λ k. r.count.steps + k)
+    c.add.ensures.steps ∙ ap (λ k. r.count.steps + k)
     (c.steps_of_word.ensures ∙ ap (λ (b : Bool). cond b 1 0) told
     ∙ sym (steps_more work plan core (Exec i) [] ∙ add-zero _)
     ∙ ap (λ (e : Event). steps_made work plan core (e ∷ [])) (sym c.requires.word))

@@ -2,7 +2,7 @@
 use Rattle.std.proofs.Common.{◌≡◌, ℕ, ◌+◌, ◌<◌, refl, ap, ◌∙◌, subst, arith}
 use Rattle.std.specs.Prelude.{slice_index_or}
 use Rattle.block_layout.specs.Layout.{Shape}
-use Rattle.dsm_core.specs.node_machine.word_visits.TallyTables.{tallies_of}
+use Rattle.word_visits.specs.TallyTables.{tallies_of}
 use Rattle.dsm_core.specs.CoreParts.{work_of, core_of}
 use Rattle.timed_sim.specs.declared.run.TimedRun.{TimedRun}
 use Rattle.timed_sim.specs.Stored.{AreClocks, AreSameTimes, plan_in, times_in, times_of}
@@ -17,10 +17,10 @@ returns-in_err-steps-clause-ready c =
     let r = c.args.self.now in
     let kept = c.in_err-steps.ensures in
     let q : TimedRun = record {
-      core = c.run_each_counting.new.self;
+      core = c.run_each_tallied.new.core;
       clocks = r.clocks;
       costs = r.costs;
-      undo_logs = c.run_each_counting.new.undo_logs;
+      undo_logs = c.run_each_tallied.new.undo_logs;
       window = r.window;
       count = r.count;
     } in
@@ -42,10 +42,10 @@ returns-clause-ready c =
     c.nodes-count.ensures.nodes ∙ ap (λ (s : Shape). s.nodes) c.layout.ensures.value in
     let added = c.add.ensures in
     let q : TimedRun = record {
-      core = c.run_each_counting.new.self;
+      core = c.run_each_tallied.new.core;
       clocks = c.count_words.new.self;
       costs = r.costs;
-      undo_logs = c.run_each_counting.new.undo_logs;
+      undo_logs = c.run_each_tallied.new.undo_logs;
       window = r.window;
       count = c.add.new.self;
     } in
@@ -67,10 +67,10 @@ returns-clause-made c = λ made.
     let ready = c.requires.ready in
     let added = c.add.ensures in
     let q : TimedRun = record {
-      core = c.run_each_counting.new.self;
+      core = c.run_each_tallied.new.core;
       clocks = c.count_words.new.self;
       costs = r.costs;
-      undo_logs = c.run_each_counting.new.undo_logs;
+      undo_logs = c.run_each_tallied.new.undo_logs;
       window = r.window;
       count = c.add.new.self;
     } in
