@@ -48,8 +48,7 @@ pub record HaveRecordLaws : Type 0 where
   pub one_rewriting : (batches : Bool) (program : Program) (one other : Parts)
       → IsRewritten batches program one → IsRewritten batches program other → one ≡ other
   pub one_verified : (original : Elf) (plan other : List PlanEntry) (image again : List Cell)
-      → IsRewriting (program_of original) plan image
-      → IsRewriting (program_of original) other again
+      → IsRewriting (program_of original) plan image → IsRewriting (program_of original) other again
       → rewritten_elf original image plan ≡ rewritten_elf original again other
       → (plan ≡ other) × (image ≡ again)
   pub one_telling : (r : Record) (told other : List Told) → AreToldBy r told → AreToldBy r other
@@ -107,8 +106,7 @@ one_image laws choice again file elf other plan plan' image image' same is h k =
 pub one_list : (elf : Elf) (shared others : List Lines) → AreSharedRanges elf shared
     → AreSharedRanges elf others → All HasLines shared → All HasLines others → shared ≡ others
 one_list elf shared others h k some more =
-    same_ranges shared others some more h.apart k.apart
-    (λ line. h.lines line ∙ sym (k.lines line))
+    same_ranges shared others some more h.apart k.apart (λ line. h.lines line ∙ sym (k.lines line))
 
 abbrev shape : List Lines → List BlockRange → ℕ → Shape
 shape shared named nodes = record { shared = shared; named = named; nodes = nodes }
@@ -157,8 +155,7 @@ one_outcome_by : (work work' : Work) (plan plan' : List PlanEntry) (events event
     (o other : Outcome) → work ≡ work' → plan ≡ plan' → events ≡ events'
     → IsWholeRun work plan events o → IsWholeRun work' plan' events' other → o ≡ other
 one_outcome_by work work' plan plan' events events' o other w p e h k =
-    one_outcome_of work plan events o other h
-    (subst (λ x. IsWholeRun x plan events other) (sym w)
+    one_outcome_of work plan events o other h (subst (λ x. IsWholeRun x plan events other) (sym w)
     (subst (λ x. IsWholeRun work' x events other) (sym p)
     (subst (λ x. IsWholeRun work' plan' x other) (sym e) k)))
 
@@ -241,8 +238,7 @@ module _ (laws : HaveRecordLaws) (ran : Inputs) (nodes budget : ℕ) (work : Wor
   -- so a replay of files that have it, and the same executable and verified file, has the same
   -- outcome
   pub told_again : (inputs : Inputs) → inputs.executable ≡ ran.executable
-      → inputs.verified ≡ ran.verified → inputs.text ≡ record_text kept
-      → IsOutcomeOfReplay inputs o
+      → inputs.verified ≡ ran.verified → inputs.text ≡ record_text kept → IsOutcomeOfReplay inputs o
   told_again inputs executable verified recorded =
       let again = laws.again work end own kept h.of_code.runs h.of_code.stands h.of_code.over
       journals_kept in
@@ -288,8 +284,7 @@ pub same_text : HaveRecordLaws → (ran inputs : Inputs) (nodes budget : ℕ)
     → held ≡ Some inputs.text → inputs.executable ≡ ran.executable
     → inputs.verified ≡ ran.verified → short ≡ brief
     → IsTextWith (IsOutcomeRecorded ran nodes budget held) brief text status
-    → IsTextWith (IsOutcomeOfReplay inputs) short again other
-    → (again ≡ text) × (other ≡ status)
+    → IsTextWith (IsOutcomeOfReplay inputs) short again other → (again ≡ text) × (other ≡ status)
 same_text laws ran inputs nodes budget held brief short text again status other is executable verified flag h k =
     let same : k.outcome ≡ h.outcome = one_outcome laws inputs k.outcome h.outcome k.is
     (replay_of_run laws ran inputs nodes budget held h.outcome is executable verified h.is) in (

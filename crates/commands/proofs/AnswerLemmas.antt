@@ -1,6 +1,6 @@
 -- What the answer of a command says of the whole.
 use Rattle.std.proofs.Common.{◌≡◌, ◌⊎◌, ℕ, ◌<◌, ◌≤◌, Bool, true, false, List, [], ◌++◌, length, Option, Some, None, append-nil, option_map, refl, sym, ap, ◌∙◌, subst, inl, inr, arith}
-use Rattle.std.specs.Prelude.{Contains, IfSome, IfOk, IfErr, MatchOption, Result, Ok, Err, if◌then◌else◌}
+use Rattle.std.specs.Prelude.{Contains, IfOk, IfErr, MatchOption, Result, Ok, Err, if◌then◌else◌}
 use Rattle.dsm_io.specs.Causes.{Rose}
 use Rattle.command_line.specs.Commands.{RewriteArguments, Command, Rewrite, Run, Listing, One, Sim, Replay, Generate, Assemble, reads, writes}
 use Rattle.command_line.specs.declared.Command.{Command as OfCode}
@@ -9,15 +9,14 @@ use Rattle.command_line.specs.Meaning.{meaning_of}
 use Rattle.text_output.specs.declared.failure.Failure.{Failure}
 use Rattle.text_output.specs.declared.failure.Failure.TheVariants.{Input, NotWritten, Refused, Layout, Record, Text, Output, OutOfMemory}
 use Rattle.dsm_io.specs.States.{SinkState, FilesState}
-use Rattle.commands.specs.Answers.{HasBytes, IsFault, IsLeft, IsUnwritten, IsWriteFault, IsRefusalStatus, AreLeft, AreWritten}
+use Rattle.commands.specs.Answers.{HasBytes, IsFault, IsUnwritten, IsWriteFault, AreLeft}
 use Rattle.judged_files.specs.Failures.{IsTooLong, file_limit, IsReadFailure, IsNamedFailure}
 use Rattle.commands.specs.Refusals.{IsRefused, IsLayoutRefused, IsRecordRefused, IsTextRefused}
-use Rattle.text_output.specs.Failures.{status_of, line_of, FailsAs, Puts, IsWriteFailure, IsNoRefusal, PutsPrefix}
+use Rattle.text_output.specs.Failures.{status_of, line_of, FailsAs, Puts, IsWriteFailure, PutsPrefix}
 use Rattle.commands.specs.Failures.{IsFailure, IsPerformFailure, IsRewriteFailure, IsSuccess, IsInputFailure, AreInputs, AreKept}
 use Rattle.commands.specs.Headline.{IsText, IsRewrittenFile, IsRewrittenText, PrintsPrefix}
 use Rattle.judged_files.specs.Inputs.{Inputs}
 use Rattle.commands.specs.Inputs.{AreTold, inputs_of}
-use Rattle.commands.proofs.InputLemmas.{only_of}
 
 -- what the words ask for, and where they ask for nothing
 pub asked_as : (words : List (List ℕ)) (r : Option OfCode) (x : OfCode)
@@ -40,15 +39,11 @@ pub is_low : (c : Command) (files : FilesState) (inputs : Inputs) (text : List �
     (status : ℕ) → IsText c files inputs text status → status ≤ 1
 is_low (Rewrite a) files inputs text status h =
     let zero = h.status_is in omega (arith, zero)
-is_low (Run a) files inputs text status h =
-    subst (λ s. s ≤ 1) (sym h.status_is) (low_status _)
-is_low (One a) files inputs text status h =
-    subst (λ s. s ≤ 1) (sym h.status_is) (low_status _)
-is_low (Sim a) files inputs text status h =
-    subst (λ s. s ≤ 1) (sym h.status_is) (low_status _)
+is_low (Run a) files inputs text status h = subst (λ s. s ≤ 1) (sym h.status_is) (low_status _)
+is_low (One a) files inputs text status h = subst (λ s. s ≤ 1) (sym h.status_is) (low_status _)
+is_low (Sim a) files inputs text status h = subst (λ s. s ≤ 1) (sym h.status_is) (low_status _)
 is_low (Listing a) files inputs text status h = let zero = h.1 in omega (arith, zero)
-is_low (Replay a) files inputs text status h =
-    subst (λ s. s ≤ 1) (sym h.status_is) (low_status _)
+is_low (Replay a) files inputs text status h = subst (λ s. s ≤ 1) (sym h.status_is) (low_status _)
 is_low (Generate a) files inputs text status h =
     let zero = h.1 in omega (arith, zero)
 is_low (Assemble a) files inputs text status h =
@@ -68,8 +63,7 @@ succeeds c files files_now before now inputs status read put = record {
 }
 
 prefix_as : (c : Command) (files files_now : FilesState) (inputs : Inputs) (before now : SinkState)
-    → AreInputs c files inputs
-    → PutsPrefix (IsText c files_now inputs) before now
+    → AreInputs c files inputs → PutsPrefix (IsText c files_now inputs) before now
     → (contents : List ℕ → List ℕ) → AreTold c files contents
     → PrintsPrefix c contents files_now before now
 prefix_as c files files_now inputs before now read put contents told = record {
@@ -120,8 +114,7 @@ fails_with c files read_files files_now before now inputs OutOfMemory read low h
 
 -- a file is read after others
 too_long_before : (files between now : FilesState) (name : List ℕ)
-    → between.held name ≡ files.held name
-    → files.failed_reads name ≤ between.failed_reads name
+    → between.held name ≡ files.held name → files.failed_reads name ≤ between.failed_reads name
     → IsTooLong between now name → IsTooLong files now name
 too_long_before files between now name same low h =
     go (files.held name) (subst (λ o. MatchOption o (Rose (between.failed_reads name) (now.failed_reads name))
@@ -134,8 +127,7 @@ too_long_before files between now name same low h =
     go (Some file) k = k
 
 pub later_read : (files between now : FilesState) (name : List ℕ) (f : Failure)
-    → between.held name ≡ files.held name
-    → files.failed_reads name ≤ between.failed_reads name
+    → between.held name ≡ files.held name → files.failed_reads name ≤ between.failed_reads name
     → IsReadFailure between now name f → IsReadFailure files now name f
 later_read files between now name (Input line) same low h = elim h [
   | inl failed ↦ inl (rose_before _ _ _ low failed.0, failed.1)
@@ -149,28 +141,6 @@ later_read files between now name (Text line) same low h = h
 later_read files between now name Output same low h = h
 later_read files between now name OutOfMemory same low h = h
 
-pub fails_to_read : (c : Command) (files files_now : FilesState) (state : SinkState) (f : Failure)
-    → IsInputFailure c files files_now f → IsFailure c files files_now state state f
-fails_to_read c files files_now state (Input line) h = (refl, (h.0, h.1, h.2))
-fails_to_read c files files_now state (NotWritten line) h = absurd h.2
-fails_to_read c files files_now state (Refused line) h = absurd h.2
-fails_to_read c files files_now state (Layout line) h = absurd h.2
-fails_to_read c files files_now state (Record line) h = absurd h.2
-fails_to_read c files files_now state (Text line) h = absurd h.2
-fails_to_read c files files_now state Output h = absurd h.2
-fails_to_read c files files_now state OutOfMemory h = λ contents told. inl refl
-
-pub no_refusal : (files files_now : FilesState) (name : List ℕ) (f : Failure)
-    → IsReadFailure files files_now name f → IsNoRefusal f
-no_refusal files files_now name (Input line) h = inl refl
-no_refusal files files_now name (NotWritten line) h = absurd h
-no_refusal files files_now name (Refused line) h = absurd h
-no_refusal files files_now name (Layout line) h = absurd h
-no_refusal files files_now name (Record line) h = absurd h
-no_refusal files files_now name (Text line) h = absurd h
-no_refusal files files_now name Output h = absurd h
-no_refusal files files_now name OutOfMemory h = inr refl
-
 -- a file of the command that is named wasn't read, after others
 pub named_fails : (c : Command) (files between now : FilesState) (o : Option (List ℕ)) (f : Failure)
     → ((n : List ℕ) → between.held n ≡ files.held n)
@@ -180,21 +150,7 @@ pub named_fails : (c : Command) (files between now : FilesState) (o : Option (Li
 named_fails c files between now o f same low is_read h =
     (h.0, is_read h.0 h.1, later_read files between now h.0 f (same h.0) (low h.0) h.2)
 
-pub kept_unread : (c : Command) (files files_now : FilesState) (f : Failure)
-    → IsInputFailure c files files_now f → IsNoRefusal f
-kept_unread c files files_now f h = no_refusal files files_now h.0 f h.2
-
 -- what the status of a failure says
-
-pub failure_range : (f : Failure) → (3 ≤ status_of f) × (status_of f ≤ 8)
-failure_range (Input line) = (omega arith, omega arith)
-failure_range (NotWritten line) = (omega arith, omega arith)
-failure_range (Refused line) = (omega arith, omega arith)
-failure_range (Layout line) = (omega arith, omega arith)
-failure_range (Record line) = (omega arith, omega arith)
-failure_range (Text line) = (omega arith, omega arith)
-failure_range Output = (omega arith, omega arith)
-failure_range OutOfMemory = (omega arith, omega arith)
 
 pub fault_of : (c : Command) (files files_now : FilesState) (before now : SinkState) (f : Failure)
     (Told : List ℕ → Type 0) → IsFailure c files files_now before now f → Told (line_of f)
@@ -308,19 +264,6 @@ text_refusal_of c files files_now before now Output Told h told eight contents k
 text_refusal_of c files files_now before now OutOfMemory Told h told eight contents known =
     absurd (omega (arith, eight))
 
-pub nothing_of : (c : Command) (files files_now : FilesState) (before now : SinkState) (f : Failure)
-    → IsFailure c files files_now before now f
-    → (status_of f ≡ 2) ⊎ IsRefusalStatus (status_of f)
-    → now.taken ≡ before.taken
-nothing_of c files files_now before now (Input line) h s = h.0
-nothing_of c files files_now before now (NotWritten line) h s = h.0
-nothing_of c files files_now before now (Refused line) h s = h.0
-nothing_of c files files_now before now (Layout line) h s = h.0
-nothing_of c files files_now before now (Record line) h s = h.0
-nothing_of c files files_now before now (Text line) h s = h.0
-nothing_of c files files_now before now Output h s = absurd (omega (arith, s))
-nothing_of c files files_now before now OutOfMemory h s = absurd (omega (arith, s))
-
 pub prefix_of_failure : (c : Command) (files files_now : FilesState) (before now : SinkState)
     (f : Failure) → IsFailure c files files_now before now f → status_of f ≡ 5
     → (contents : List ℕ → List ℕ) → AreTold c files contents
@@ -341,16 +284,6 @@ prefix_of_failure c files files_now before now Output h five contents told =
     absurd (omega (arith, five))
 prefix_of_failure c files files_now before now OutOfMemory h five contents told = h contents told
 
-pub line_five : (f : Failure) → status_of f ≡ 5 → line_of f ≡ Rattle.text_output.specs.Text.out_of_memory
-line_five (Input line) five = absurd (omega (arith, five))
-line_five (NotWritten line) five = absurd (omega (arith, five))
-line_five (Refused line) five = absurd (omega (arith, five))
-line_five (Layout line) five = absurd (omega (arith, five))
-line_five (Record line) five = absurd (omega (arith, five))
-line_five (Text line) five = absurd (omega (arith, five))
-line_five Output five = absurd (omega (arith, five))
-line_five OutOfMemory five = refl
-
 pub ok_as : {T E : Type 0} (P Q : T → Type 0) (r : Result T E) → ((x : T) → P x → Q x)
     → IfOk r P → IfOk r Q
 ok_as P Q (Ok x) f h = f x h
@@ -363,51 +296,8 @@ err_as P Q (Err e) f h = f e h
 
 -- ---- the files that commands write
 
--- a command that writes no file
-pub none_written : (c : Command) → writes c ≡ [] → (inputs : Inputs)
-    (before now : FilesState) → AreWritten c inputs now × AreLeft c inputs before now
-none_written c none inputs before now = (
-  λ name h. absurd (nothing_in name (subst (λ ns. Contains ns name) none h)),
-  λ name h. absurd (nothing_in name (subst (λ ns. Contains ns name) none h)),
-)
-  where
-    nothing_in : (name : List ℕ) → Contains [] name → ⊥
-    nothing_in name h = omega (arith, h.1)
-
-pub only_output : (a : RewriteArguments) (name : List ℕ) → Contains (writes (Rewrite a)) name
-    → name ≡ a.output
-only_output a name h = only_of a.output name h
-
 pub has_output : (a : RewriteArguments) → Contains (writes (Rewrite a)) a.output
 has_output a = (0, omega arith, refl)
-
-pub rewritten_written : (a : RewriteArguments) (inputs : Inputs) (now : FilesState)
-    → IfSome (now.held a.output) (IsRewrittenFile inputs.batches inputs.executable)
-    → AreWritten (Rewrite a) inputs now
-rewritten_written a inputs now h name there =
-    subst (λ n. IfSome (now.held n) (IsRewrittenFile inputs.batches inputs.executable)) (sym (only_output a name there)) h
-
-left_at : (a : RewriteArguments) (inputs : Inputs) (before now : FilesState)
-    → (now.held a.output ≡ before.held a.output)
-    ⊎ Rose (before.failed_writes a.output) (now.failed_writes a.output)
-    → AreLeft (Rewrite a) inputs before now
-left_at a inputs before now h name there =
-    subst (IsLeft (Rewrite a) inputs before now) (sym (only_output a name there))
-    (elim h [ inl same ↦ inl same | inr rose ↦ inr (inr rose) ])
-
-pub rewrite_left : (a : RewriteArguments) (inputs : Inputs) (before now : FilesState) (f : Failure)
-    → IsRewriteFailure inputs.batches inputs.executable before now a.output f
-    → AreLeft (Rewrite a) inputs before now
-rewrite_left a inputs before now (Input line) h = absurd h
-rewrite_left a inputs before now (NotWritten line) h =
-    left_at a inputs before now (inr h.1.0)
-rewrite_left a inputs before now (Refused line) h =
-    left_at a inputs before now (inl (h.1 a.output))
-rewrite_left a inputs before now (Layout line) h = absurd h
-rewrite_left a inputs before now (Record line) h = absurd h
-rewrite_left a inputs before now (Text line) h = absurd h
-rewrite_left a inputs before now Output h = absurd h
-rewrite_left a inputs before now OutOfMemory h = left_at a inputs before now h
 
 -- a rewritten file wasn't written
 pub rewrite_unwritten : (batches : Bool) (file bytes : List ℕ) (before now : FilesState)

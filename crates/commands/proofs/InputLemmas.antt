@@ -24,8 +24,7 @@ named_in names =
 
 -- nodes that run, with other files beside the executable
 abbrev with_files : Execution → (code verified layout : Option (List ℕ)) → Execution
-with_files e code verified layout =
-    record e { code = code; verified = verified; layout = layout }
+with_files e code verified layout = record e { code = code; verified = verified; layout = layout }
 
 run_reads : (a : RunArguments) (code verified layout : Option (List ℕ))
     → reads (Run (record a { execution = with_files a.execution code verified layout }))
@@ -276,5 +275,4 @@ content_before files between (Some name) (Some bytes) same h =
 pub bytes_before : (files between : FilesState) (o : Option (List ℕ)) (bytes : List ℕ)
     → ((n : List ℕ) → between.held n ≡ files.held n) → AreBytes between o bytes → AreBytes files o bytes
 bytes_before files between None bytes same h = h
-bytes_before files between (Some name) bytes same h =
-    subst (λ o. IsContent o bytes) (same name) h
+bytes_before files between (Some name) bytes same h = subst (λ o. IsContent o bytes) (same name) h

@@ -110,8 +110,7 @@ begins kept text shared h valid =
       code = kept.code;
       behind = first.0;
       text_is = h.text_is ∙ whole kept ∙ all ∙ ap (λ t. t
-          ++ (number_line (codes "nodes ") kept.nodes
-          ++ (number_line (codes "budget ") kept.budget
+          ++ (number_line (codes "nodes ") kept.nodes ++ (number_line (codes "budget ") kept.budget
           ++ (number_line (codes "batch ") (batch_number kept.batch) ++ (code_line kept.code
           ++ (flat_map block_line kept.blocks ++ (codes "node 0\n" ++ first.0)))))))
           (version_is kept.code);
@@ -125,8 +124,7 @@ begins kept text shared h valid =
 
 -- so does the text of a record, of the layout of its blocks
 begins_so : (kept : Record) (text : List ℕ) (elf : Elf) (layout : Shape) → IsTextOf kept text
-    → IsLayoutOfBlocks elf kept layout → IsValid layout
-    → AreSharedRanges elf layout.shared
+    → IsLayoutOfBlocks elf kept layout → IsValid layout → AreSharedRanges elf layout.shared
     × ((layout.nodes ≡ kept.nodes) × BeginsRecord text layout kept.budget)
 begins_so kept text elf layout h laid valid =
     let same = laid.layout_is in (
@@ -370,8 +368,7 @@ prints_original p contents files before now status h = record {
 -- ---- what is asked
 
 -- words that ask to run a program ask for the command
-pub asks_as : (words : List (List ℕ)) (p : Task) → AsksToRun words p
-    → Asks words (as_command p)
+pub asks_as : (words : List (List ℕ)) (p : Task) → AsksToRun words p → Asks words (as_command p)
 asks_as words (Run a) h = record { of_row = h.of_row; fits = h.fits }
 asks_as words (One a) h = record { of_row = h.of_row; fits = h.fits }
 asks_as words (Sim a) h = record { of_row = h.of_row; fits = h.fits }

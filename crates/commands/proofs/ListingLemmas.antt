@@ -175,11 +175,6 @@ reaches_more e b next text more h line some low none =
 abbrev pub left_from : Option ℕ → ℕ
 left_from next = option_map_or (λ b. 2 ^ 32 - b) next 0
 
-pub fewer_left : (e : Elf) (b : ℕ) (next : Option ℕ) → b + 4 ≤ 0x7fff0000
-    → IfSome next (λ a. IsNextCode e (b + 4) a) → left_from next < 2 ^ 32 - b
-fewer_left e b None low some = omega arith
-fewer_left e b (Some a) low some = let at = some.at_least in omega (arith, at)
-
 -- a line more
 pub line_gathered : (e : Elf) (b : ℕ) (start now : SinkState) (lines more : List ℕ)
     (next behind_it : Option ℕ) → IsUnderWay e start now lines next → next ≡ Some b

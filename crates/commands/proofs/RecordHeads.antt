@@ -33,8 +33,7 @@ behind_code : (a b : Option ℕ) (rs ss : List BlockRange) (us vs : List ℕ)
     → from_blocks rs us ≡ from_blocks ss vs
 behind_code None None rs ss us vs p q e = e
 behind_code None (Some n) rs ss us vs p q e = absurd (no_code n rs us (from_blocks ss vs) e)
-behind_code (Some m) None rs ss us vs p q e =
-    absurd (no_code m ss vs (from_blocks rs us) (sym e))
+behind_code (Some m) None rs ss us vs p q e = absurd (no_code m ss vs (from_blocks rs us) (sym e))
 behind_code (Some m) (Some n) rs ss us vs p q e =
     (line_told (codes "code ") m n (from_blocks rs us) (from_blocks ss vs) (omega (arith, p))
     (omega (arith, q)) e).1

@@ -51,8 +51,7 @@ sizes_small =
     (All-cons (λ size. size ≤ 4096) 512 (1024 ∷ 2048 ∷ 4096 ∷ []) (omega arith)
     (All-cons (λ size. size ≤ 4096) 1024 (2048 ∷ 4096 ∷ []) (omega arith)
     (All-cons (λ size. size ≤ 4096) 2048 (4096 ∷ []) (omega arith)
-    (All-cons (λ size. size ≤ 4096) 4096 [] (omega arith)
-    (All-nil (λ size. size ≤ 4096))))))))
+    (All-cons (λ size. size ≤ 4096) 4096 [] (omega arith) (All-nil (λ size. size ≤ 4096))))))))
 
 home_low : (nodes : ℕ) (home : Option ℕ) → nodes ≤ 16 → is_home nodes home ≡ true
     → IfSome home (λ node. node ≤ 99)
@@ -87,8 +86,7 @@ each_from : (f : ℕ → List Entry) (P : List Entry → Type 0) (first count : 
     → ((i : ℕ) → i < first + count → P (f i)) → All P (map f (range_with_len first count))
 each_from f P first zero h = All-nil P
 each_from f P first (suc count) h = All-cons P (f first) (map f (range_with_len (first + 1) count))
-    (h first (omega arith))
-    (each_from f P (first + 1) count (λ i low. h i (omega (arith, low))))
+    (h first (omega arith)) (each_from f P (first + 1) count (λ i low. h i (omega (arith, low))))
 
 pub items_more : (vs : List (Vec Entry Global)) (v : Vec Entry Global)
     → items_of (vs ++ v ∷ []) ≡ items_of vs ++ v.items ∷ []
@@ -98,8 +96,7 @@ items_more (w ∷ vs) v = ap (λ xs. w.items ∷ xs) (items_more vs v)
 -- the law of journals, and that of short runs
 abbrev pub TellTakes : Type 0
 TellTakes = (work : Work) (run : List Event) (i : ℕ) → IsCoreRun work (opening_core work) run
-    → i < work.layout.nodes
-    → AreTakesWithin work.layout.nodes 0 (length run)
+    → i < work.layout.nodes → AreTakesWithin work.layout.nodes 0 (length run)
     ((after work (opening_core work) run).nodes i).journal
 
 abbrev pub AreShort : Type 0
@@ -108,8 +105,7 @@ AreShort = (work : Work) (plan : List PlanEntry) (events : List Event)
     → IsRewriting work.program plan work.image → 0 < work.budget
     → IsCoreRun work (opening_core work) events → length events ≤ most_events work
 
-most : (n budget : ℕ) → n ≤ 16 → budget ≤ 2 ^ 32
-    → (4 * n + 5) * (n * budget) + n * n < 2 ^ 63
+most : (n budget : ℕ) → n ≤ 16 → budget ≤ 2 ^ 32 → (4 * n + 5) * (n * budget) + n * n < 2 ^ 63
 most n budget few range =
     let words = mul-le n budget 16 (2 ^ 32) few range in
     let runs = mul-le (4 * n + 5) (n * budget) 69 (16 * 2 ^ 32) (omega arith) words in
@@ -158,8 +154,7 @@ is_record batches work core own tell short r stands =
 
 -- ---- the record of a core is that of its own run
 
-same_from : (f g : ℕ → List Entry) (first count : ℕ)
-    → ((i : ℕ) → i < first + count → f i ≡ g i)
+same_from : (f g : ℕ → List Entry) (first count : ℕ) → ((i : ℕ) → i < first + count → f i ≡ g i)
     → map f (range_with_len first count) ≡ map g (range_with_len first count)
 same_from f g first zero h = refl
 same_from f g first (suc count) h =

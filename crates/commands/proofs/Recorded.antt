@@ -53,8 +53,7 @@ own_recorded batches w work core own o held same stands over outcome bytes =
 -- it is a run of the inputs
 pub recorded : (inputs : Inputs) (nodes budget : ℕ) (work : Work) (held : Option (List ℕ))
     (o : Outcome) → GivesRuns inputs nodes budget work
-    → IsOwnRecorded inputs.batches work held o
-    → IsOutcomeRecorded inputs nodes budget held o
+    → IsOwnRecorded inputs.batches work held o → IsOutcomeRecorded inputs nodes budget held o
 recorded inputs nodes budget work held o runs h = record {
   work = work;
   own = h.own;
@@ -110,10 +109,6 @@ module _ (a : RunArguments) where
       → AreLeft asked inputs before now
   written_left inputs before now h name there = inr (inl (h name there))
 
-  pub same_left : (inputs : Inputs) (before now : FilesState)
-      → ((n : List ℕ) → now.held n ≡ before.held n) → AreLeft asked inputs before now
-  same_left inputs before now h name there = inl (h name)
-
   -- a record that wasn't written, of a run that was made
   bytes_of_run : (inputs : Inputs) (work : Work) → GivesRuns inputs a.execution.nodes a.execution.budget work
       → (made : (outcome : Outcome) × IsOwnOutcome work outcome) → HasBytes asked inputs
@@ -155,8 +150,7 @@ module _ (a : RunArguments) where
 
   left_at : (inputs : Inputs) (before now : FilesState) (name : List ℕ) → a.record_file ≡ Some name
       → (now.held name ≡ before.held name)
-      ⊎ Rose (before.failed_writes name) (now.failed_writes name)
-      → AreLeft asked inputs before now
+      ⊎ Rose (before.failed_writes name) (now.failed_writes name) → AreLeft asked inputs before now
   left_at inputs before now name e h other there =
       let is : Some name ≡ Some other = sym e ∙ record_named other there in
       let same : name ≡ other = cc in

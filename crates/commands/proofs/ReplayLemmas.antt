@@ -33,8 +33,7 @@ refused_replay inputs brief state OutOfMemory h = inl refl
 -- a text that isn't put whole
 pub unput_replay : (inputs : Inputs) (brief : Bool) (before now : SinkState) (f : Failure)
     → FailsAs (IsTextWith (IsOutcomeOfReplay inputs) brief) (IsReplayRefused inputs)
-    (IsBadReplayLayout inputs) before now f
-    → IsReplayFailure inputs brief before now f
+    (IsBadReplayLayout inputs) before now f → IsReplayFailure inputs brief before now f
 unput_replay inputs brief before now (Input line) h = h
 unput_replay inputs brief before now (NotWritten line) h = h
 unput_replay inputs brief before now (Refused line) h = h

@@ -42,8 +42,7 @@ module _ (contents later : List ℕ → List ℕ) (left : FilesState) where
   prints_again laws ran replay found before now before_again now_again status status_again is =
       by_commands (λ c d. Prints c contents left before now status
       → Prints d later found before_again now_again status_again
-      → PutOneText before now status before_again now_again status_again)
-      (λ a b is h k.
+      → PutOneText before now status before_again now_again status_again) (λ a b is h k.
       let e = a.execution in
       let first : Inputs = inputs_of (Run a) contents in
       let second : Inputs = inputs_of (Replay b) later in
@@ -55,8 +54,7 @@ module _ (contents later : List ℕ → List ℕ) (left : FilesState) where
         put = h.put;
         put_again = subst (Appends before_again.taken now_again.taken) same.0 k.put;
         same_status = same.1;
-      })
-      ran replay is
+      }) ran replay is
 
   -- the whole of a text of which the run put a prefix
   pub whole_again : HaveRecordLaws → (ran replay : Command) (found : FilesState)
@@ -69,8 +67,7 @@ module _ (contents later : List ℕ → List ℕ) (left : FilesState) where
       by_commands (λ c d. PrintsPrefix c contents left before now
       → Prints d later found before_again now_again status
       → (text : List ℕ) × AppendsPrefix before.taken now.taken text
-      × Appends before_again.taken now_again.taken text)
-      (λ a b is h k.
+      × Appends before_again.taken now_again.taken text) (λ a b is h k.
       let e = a.execution in
       let first : Inputs = inputs_of (Run a) contents in
       let second : Inputs = inputs_of (Replay b) later in
@@ -79,8 +76,7 @@ module _ (contents later : List ℕ → List ℕ) (left : FilesState) where
         h.text,
         h.put,
         subst (Appends before_again.taken now_again.taken) same.0 k.put,
-      ))
-      ran replay is
+      )) ran replay is
 
   -- no reason fits to refuse it
   pub taken_again : HaveRecordLaws → HaveFaultLaws → (ran replay : Command)
@@ -91,15 +87,11 @@ module _ (contents later : List ℕ → List ℕ) (left : FilesState) where
       ⊎ IsRecordRefused replay (inputs_of replay later) line) → ⊥
   taken_again laws faults ran replay text line status is =
       by_commands (λ c d. IsText c left (inputs_of c contents) text status
-      → IsRefused d (inputs_of d later) line
-      ⊎ (IsLayoutRefused d (inputs_of d later) line
-      ⊎ IsRecordRefused d (inputs_of d later) line) → ⊥)
-      (λ a b is h.
+      → IsRefused d (inputs_of d later) line ⊎ (IsLayoutRefused d (inputs_of d later) line
+      ⊎ IsRecordRefused d (inputs_of d later) line) → ⊥) (λ a b is h.
       let e = a.execution in
       let first : Inputs = inputs_of (Run a) contents in
       let second : Inputs = inputs_of (Replay b) later in
       not_refused laws faults second h.outcome
       (replay_of_run laws first second e.nodes e.budget (held_by left a.record_file) h.outcome
-      is.left_record is.executable is.verified h.is)
-      line)
-      ran replay is
+      is.left_record is.executable is.verified h.is) line) ran replay is

@@ -8,8 +8,7 @@ use Rattle.block_layout.specs.Layout.{is_among, is_in}
 
 -- ---- a line and a range
 
-among : (r : Lines) (line : ℕ) → r.first ≤ line → line < r.first + r.lines
-    → is_among line r ≡ true
+among : (r : Lines) (line : ℕ) → r.first ≤ line → line < r.first + r.lines → is_among line r ≡ true
 among r line low high =
     and_from (nat_le r.first line) (nat_lt line (r.first + r.lines)) (le-leb r.first line low)
     (lt-ltb line (r.first + r.lines) high)

@@ -88,5 +88,5 @@ fn simulate_on_lanes(
 {
     lane_law();
     lane_progress_law();
-    smp_simulate(alloc, work, lanes.number(), order)
+    smp_simulate(alloc, work, lanes.as_u8(), order)
 }

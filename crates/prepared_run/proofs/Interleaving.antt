@@ -55,8 +55,7 @@ ends_from budget exit phase a (suc n) (e ∷ es) h is =
     let first = end_is budget (exit a) (phase a) e (h a (omega arith) (omega arith)) parts.0 in
     let rest = ends_from budget exit phase (a + 1) n es
     (λ p low high. h p (omega (arith, low)) (omega (arith, high))) parts.1 in
-    ap (λ x. x ∷ es) first
-    ∙ ap (λ xs. end_by budget (exit a) ∷ xs) rest
+    ap (λ x. x ∷ es) first ∙ ap (λ xs. end_by budget (exit a) ∷ xs) rest
 
 -- each of them has an end
 has_end : (phase : ℕ → Phase) (a n : ℕ) (es : List End)
@@ -121,8 +120,7 @@ original_as program layout nodes budget fewest_steps program' nodes' budget' out
 
 -- ---- texts
 
-pub text_as : (brief : Bool) (o : Outcome)
-    → text_of (told brief o) ≡ outcome_head (length o.output)
+pub text_as : (brief : Bool) (o : Outcome) → text_of (told brief o) ≡ outcome_head (length o.output)
     ++ (o.output ++ outcome_tail o.ends (told brief o).counts)
 text_as true o = refl
 text_as false o = refl

@@ -55,8 +55,7 @@ nodes_of elf text nodes layout h = (shape_facts text h.shared nodes layout h.rea
 pub laid_over : (elf : Elf) (text : Option (List ℕ)) (nodes : ℕ) (layout : Shape)
     → IsLayoutOfExecutable elf text nodes layout → IsLaidOver (program_of elf) layout
 laid_over elf text nodes layout h line =
-    laid_by (class_of_line elf line) (is_shared_line layout line)
-    (shared_as layout line
+    laid_by (class_of_line elf line) (is_shared_line layout line) (shared_as layout line
     ∙ ap (λ rs. is_in rs line) (shape_facts text h.shared nodes layout h.reads).0
     ∙ h.lines.lines line)
 
@@ -64,8 +63,7 @@ laid_over elf text nodes layout h line =
 pub laid_over_blocks : (elf : Elf) (kept : Record) (layout : Shape)
     → IsLayoutOfBlocks elf kept layout → IsLaidOver (program_of elf) layout
 laid_over_blocks elf kept layout h line =
-    laid_by (class_of_line elf line) (is_shared_line layout line)
-    (shared_as layout line
+    laid_by (class_of_line elf line) (is_shared_line layout line) (shared_as layout line
     ∙ ap (λ (s : Shape). is_in s.shared line) h.layout_is
     ∙ h.lines.lines line)
 
@@ -138,8 +136,7 @@ EndsEmpty = (work : Work) (plan : List PlanEntry) (events : List Event) (j k : �
 run_front : (work : Work) (before behind : List Event) (c : Core)
     → IsCoreRun work c (before ++ behind) → IsCoreRun work c before
 run_front work [] behind c may = tt
-run_front work (e ∷ es) behind c may =
-    (may.0, run_front work es behind (event_step work c e) may.1)
+run_front work (e ∷ es) behind c may = (may.0, run_front work es behind (event_step work c e) may.1)
 
 -- the parts of a run: an accepted program, its rewriting and the layout
 pub record AreReady (choice : Choice) (file : List ℕ) (elf : Elf) (plan : List PlanEntry)

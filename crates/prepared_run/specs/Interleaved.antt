@@ -28,7 +28,7 @@ pub record IsInterleaved (original : Original) (budget fewest_steps : ℕ) (outp
       → fewest_steps ≤ steps_of p picks
 
 -- The text tells of such a run of the program of the executable in a file, on so many processors,
--- whose shared lines have the blocks of such a layout. Behind the ends stand the lines of what
+-- whose shared lines have the blocks of such a layout. After the ends stand the lines of what
 -- nodes counted, or none.
 pub record TellsOfOriginal (file : List ℕ) (IsLaidOut : Shape → Type 0)
     (processors budget fewest_steps : ℕ) (text : List ℕ) : Type 0 where

@@ -6,7 +6,7 @@ use Rattle.replay.specs.node_model.Outcome.{Outcome}
 use Rattle.prepared_run.specs.Processors.{outcome_head, processor_lines, status_by}
 use Rattle.prepared_run.specs.Text.{node_lines}
 
--- what stands behind the bytes printed: how each processor ended, and what each node counted
+-- what stands after the bytes printed: how each processor ended, and what each node counted
 abbrev pub outcome_tail : List End → List NodeCounts → List ℕ
 outcome_tail ends counts = codes "\n" ++ (processor_lines 0 ends ++ node_lines 0 counts)
 

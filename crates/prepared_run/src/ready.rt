@@ -51,7 +51,7 @@ impl<'a> Prepared<'a> {
 }
 
 /// Judges the executable, which was read, its rewriting or the verified file, the file of code and
-/// the layout, in this order, and gives the parts of a run of so many nodes.
+/// the layout, in this order, and gives the parts of a run of these nodes.
 pub fn prepare<'a>(
     alloc: Global,
     elf: &'a Elf<'_>,

@@ -1,4 +1,4 @@
-//! What stands before and behind the bytes that were printed.
+//! What stands before and after the bytes that were printed.
 
 ghost use Rattle.std.specs.Prelude.{◌≡◌, ◌++◌, ◌∷◌, [], length, IfOk, OnOk};
 ghost use Rattle.prepared_run.specs.Processors as lines;
@@ -22,7 +22,7 @@ pub(crate) fn outcome_head(alloc: Global, output: &[u8]) -> Result<Vec<u8>, Allo
     Ok(text)
 }
 
-/// What stands behind the bytes that were printed: how each processor ended, and what each node
+/// What stands after the bytes that were printed: how each processor ended, and what each node
 /// counted.
 pub(crate) fn outcome_tail(
     alloc: Global,

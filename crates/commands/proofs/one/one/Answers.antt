@@ -51,8 +51,7 @@ returns-in_err-layout-clause-failure g c =
     c.from_residual-in_err-layout.ensures.1 in
     rw (e.1, e.2) (refused_first (IsTextWith (IsOutcomeByOrder inputs n c.args.order c.args.budget) false)
     IsNever (IsFaultyLayout p inputs.layout n) (IsUnaccepted inputs.executable) (IsBadLayout inputs n)
-    state c.in_err-layout.field-0.0 (never (IsUnaccepted inputs.executable))
-    (λ line h. record {
+    state c.in_err-layout.field-0.0 (never (IsUnaccepted inputs.executable)) (λ line h. record {
       elf = c.in_ok-elf.elf;
       executable = record { reads = c.in_ok-elf.ensures.ok; accepted = c.in_ok-program.ensures.acceptable };
       faulty = subst (λ x. IsFaultyLayout x inputs.layout n line) c.in_ok-program.ensures.ok h;

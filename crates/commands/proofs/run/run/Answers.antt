@@ -28,8 +28,7 @@ returns-in_err-elf-clause-failure g c =
     let state : SinkState = g.O.Sink.state c.args.out.now in
     let files : FilesState = g.F.Files.state c.args.files.now in
     let e = err_from_is_err_and c.from_residual.result c.from_residual.ensures.1 in
-    rw (e.1, e.2) (plain_fails (Run a) inputs files files state state
-    c.in_err-elf.field-0.0
+    rw (e.1, e.2) (plain_fails (Run a) inputs files files state state c.in_err-elf.field-0.0
     (refused_first (IsText (Run a) files inputs)
     (IsUnread Executable inputs.executable) IsNever (IsRunRefused inputs) (IsBadRunLayout inputs a.execution.nodes) state
     c.in_err-elf.field-0.0 (λ line h. inl (inl (inl h))) (never (IsBadRunLayout inputs a.execution.nodes)) c.in_err-elf.ensures.refused))
@@ -41,8 +40,7 @@ returns-in_err-prepared-clause-failure g c =
     let state : SinkState = g.O.Sink.state c.args.out.now in
     let files : FilesState = g.F.Files.state c.args.files.now in
     let e = err_from_is_err_and c.from_residual-in_err-prepared.result c.from_residual-in_err-prepared.ensures.1 in
-    rw (e.1, e.2) (plain_fails (Run a) inputs files files state state
-    c.in_err-prepared.field-0.0
+    rw (e.1, e.2) (plain_fails (Run a) inputs files files state state c.in_err-prepared.field-0.0
     (refused_first (IsText (Run a) files inputs)
     (IsRunRefused inputs) (IsBadRunLayout inputs a.execution.nodes) (IsRunRefused inputs) (IsBadRunLayout inputs a.execution.nodes) state
     c.in_err-prepared.field-0.0 (λ line h. h) (λ line h. h) c.in_err-prepared.ensures.refused))
@@ -111,8 +109,7 @@ returns-clause-failure g c =
     recorded inputs a.execution.nodes a.execution.budget (work_for c.in_ok-prepared.prepared) held o
     c.in_ok-prepared.ensures.runs (subst (λ b. IsOwnRecorded b (work_for c.in_ok-prepared.prepared)
     held o) c.in_ok-prepared.ensures.batches c.in_ok-outcome.ensures.outcome) in
-    plain_failure (Run a) inputs files files_now state now
-    c.put_told.result
+    plain_failure (Run a) inputs files files_now state now c.put_told.result
     (outcome_fails (IsOutcomeRecorded inputs a.execution.nodes a.execution.budget held) a.execution.brief
     (IsRunRefused inputs) (IsBadRunLayout inputs a.execution.nodes) o state now c.put_told.result
     is c.put_told.ensures.failure)
@@ -144,8 +141,7 @@ returns-clause-written g c =
     held o) c.in_ok-prepared.ensures.batches c.in_ok-outcome.ensures.outcome) in
     let written : AreWritten (Run a) inputs files_now =
     record_written a inputs files_now o is in
-    always (λ status. AreWritten (Run a) inputs files_now)
-    c.put_told.result (λ status. written)
+    always (λ status. AreWritten (Run a) inputs files_now) c.put_told.result (λ status. written)
 
 pub returns-clause-left : goal.returns-clause-left
 returns-clause-left g c =

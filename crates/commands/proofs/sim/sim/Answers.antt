@@ -20,8 +20,7 @@ use Rattle.commands.proofs.sim.sim.Goals as goal
 
 -- the outcome that is asked for
 abbrev Is : Inputs → SimArguments → Outcome → Type 0
-Is inputs a o =
-    IsOutcomeOfSim inputs a.execution.nodes a.order a.execution.budget a.lanes a.loss o
+Is inputs a o = IsOutcomeOfSim inputs a.execution.nodes a.order a.execution.budget a.lanes a.loss o
 
 pub returns-in_err-elf-clause-failure : goal.returns-in_err-elf-clause-failure
 returns-in_err-elf-clause-failure g c =

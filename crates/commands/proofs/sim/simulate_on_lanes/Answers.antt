@@ -11,9 +11,9 @@ pub returns : goal.returns
 returns c =
     let work = work_in c.args.work.now in
     let lanes = c.args.lanes in
-    let value = c.number.ensures.value in
-    let low = c.number.ensures.range.0 in
-    let high = c.number.ensures.range.1 in
+    let value = c.as_u8.ensures.value in
+    let low = c.as_u8.ensures.range.0 in
+    let high = c.as_u8.ensures.range.1 in
     let laws : HaveLaneLaws = record {
       law = c.lane_law.ensures.interleaves;
       licensed = c.lane_law.ensures.licensed;
@@ -23,7 +23,7 @@ returns c =
       empty = c.lane_progress_law.ensures.over;
     } in
     record {
-      outcome = ok_as (λ o. IsLaneOutcomeByOrder (work_with work c.number.result) c.args.order (outcome_of o))
+      outcome = ok_as (λ o. IsLaneOutcomeByOrder (work_with work c.as_u8.result) c.args.order (outcome_of o))
           (λ o. IsOutcomeOnLanes (work_with work lanes) c.args.order (outcome_of o))
           c.smp_simulate.result
           (λ o ran. on_lanes (work_with work lanes) c.args.order (outcome_of o) laws c.requires.rewritten

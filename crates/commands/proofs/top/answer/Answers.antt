@@ -65,8 +65,7 @@ returns-clause-written g c =
     subst (AreInputs cmd files) (sym c.lend.ensures.value) c.in_ok-inputs.ensures.ok in
     ok_as (λ status. AreWritten cmd bytes files_now)
     (λ status. (contents : List ℕ → List ℕ) → AreTold cmd files contents
-    → AreWritten cmd (inputs_of cmd contents) files_now)
-    c.perform.result
+    → AreWritten cmd (inputs_of cmd contents) files_now) c.perform.result
     (λ status h contents told. subst (λ i. AreWritten cmd i files_now) (read contents told) h)
     c.perform.ensures.written
 
@@ -81,12 +80,10 @@ returns-clause-left g c =
     subst (AreInputs cmd files) (sym c.lend.ensures.value) c.in_ok-inputs.ensures.ok in
     err_as (λ f. AreLeft cmd bytes files_read files_now)
     (λ f. (contents : List ℕ → List ℕ) → AreTold cmd files contents
-    → AreLeft cmd (inputs_of cmd contents) files files_now)
-    c.perform.result
+    → AreLeft cmd (inputs_of cmd contents) files files_now) c.perform.result
     (λ f h contents told. left_before cmd (inputs_of cmd contents) files files_read files_now
     c.in_ok-inputs.ensures.contents c.in_ok-inputs.ensures.writes
-    (subst (λ i. AreLeft cmd i files_read files_now) (read contents told) h))
-    c.perform.ensures.left
+    (subst (λ i. AreLeft cmd i files_read files_now) (read contents told) h)) c.perform.ensures.left
 
 pub returns-clause-longer : goal.returns-clause-longer
 returns-clause-longer g c = λ name content among holds long.

@@ -88,8 +88,7 @@ returns-in-Replay-clause-failure g c =
     let a = replay_of c.in-Replay.arguments in
     rw c.in-Replay.is (err_as (IsReplayFailure inputs a.brief before now)
     (IsPerformFailure (Replay a) inputs files files before now) c.put_replay.result
-    (replay_fails a inputs files files before now)
-    c.put_replay.ensures.failure)
+    (replay_fails a inputs files files before now) c.put_replay.ensures.failure)
 
 pub returns-in-Generate-clause-ok : goal.returns-in-Generate-clause-ok
 returns-in-Generate-clause-ok g c =

@@ -41,8 +41,7 @@ returns-in_err-rewritten-clause-refused c =
     let e = err_from_is_err_and c.from_residual-in_err-rewritten.result
     c.from_residual-in_err-rewritten.ensures.1 in
     rw (e.1, e.2) (replay_refused inputs (IsUnchosen (choice_of c.in_ok-kept.kept.batch inputs.verified) p) IsNever
-    c.in_err-rewritten.field-0.0
-    (λ line h. inr (record {
+    c.in_err-rewritten.field-0.0 (λ line h. inr (record {
       elf = p;
       executable = executable;
       kept = c.in_ok-kept.kept;
@@ -94,8 +93,7 @@ returns-in_err-layout-clause-refused c =
     let e = err_from_is_err_and c.from_residual-in_err-layout.result
     c.from_residual-in_err-layout.ensures.1 in
     rw (e.1, e.2) (replay_refused inputs IsNever (AreFaultyBlocks p c.in_ok-kept.kept)
-    c.in_err-layout.field-0.0 (never (IsReplayRefused inputs))
-    (λ line h. record {
+    c.in_err-layout.field-0.0 (never (IsReplayRefused inputs)) (λ line h. record {
       kept = c.in_ok-kept.kept;
       text = c.in_ok-kept.ensures.ok;
       elf = p;
