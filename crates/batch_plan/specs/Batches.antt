@@ -10,7 +10,7 @@ use Rattle.templates.specs.WholePlan.{IsLongestRun, IsRunChoice}
 abbrev pub without_run : PlanEntry → PlanEntry
 without_run e = record e { run = 0; batch = no_scratches }
 
--- where a run may start behind an entry, where it might from this address on before it
+-- where a run may start after an entry, where it might from this address on before it
 abbrev pub behind : PlanEntry → ℕ → ℕ
 behind e free = if e.run == 0 then free else e.address + 4 * e.run
 

@@ -6,7 +6,7 @@ use Rattle.templates.specs.Runs.{code_from, reach_of, reach_at, has_access, may_
 use Rattle.templates.specs.Reaches.{is_near}
 use Rattle.batch_plan.specs.declared.stretches.RunPrefix.{RunPrefix}
 
--- the instructions begin with an access; each may stand behind it; and their accesses lie near
+-- the instructions begin with an access; each may stand after it; and their accesses lie near
 pub record IsFront (instructions : List Instr) : Type 0 where
   pub begins : IsTrue (has_access instructions 0)
   pub nonzero : (reach_of instructions).base ≢ 0

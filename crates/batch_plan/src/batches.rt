@@ -12,8 +12,8 @@ use rv32_decode::{Reg, RegSet};
 use templates::{Plan, PlanEntry, Scratches};
 
 /// Sets the runs of a plan: in ascending order, the longest from each place on that lies in no
-/// earlier one. Nothing else of the plan changes; the plan without batches of the code of which
-/// `live` was made becomes the one with batches.
+/// earlier one. Nothing else of the plan changes; the plan without batches of the code that `live`
+/// was made from becomes the one with batches.
 pub fn plan_batches(live: &Live<'_>, plan: &mut Plan)
     ensures kept { map without_run plan.new ≡ map without_run plan.old }
     ensures plan { IsPlanOf false (code_of live.now) plan.old
@@ -48,7 +48,7 @@ fn with_run(live: &Live<'_>, entry: PlanEntry, free: u32) -> PlanEntry
     entry
 }
 
-/// Where a run may start behind this entry.
+/// Where a run may start after this entry.
 fn behind(entry: &PlanEntry, free: u32) -> u32
     requires low { entry.now.address + 4 * entry.now.run < 2 ^ 32 }
     ensures value { result ≡ behind entry.now free }

@@ -1,5 +1,7 @@
 #![tactic(auto)]
 //! The batches of a plan: runs of accesses that are checked once.
+//!
+//! It hands on what its plans are made with: [`liveness`] and [`check_plan`].
 
 mod batches;
 mod runs;

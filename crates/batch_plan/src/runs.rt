@@ -11,7 +11,7 @@ use rv32_decode::Reg;
 use templates::Code;
 
 /// A run, or none.
-#[derive(Clone, Copy, Debug, PartialEq, Eq)]
+#[derive(Clone, Copy, PartialEq, Eq)]
 pub(crate) struct BatchRun {
     /// 0 where there is none.
     pub words: u8,
@@ -50,7 +50,7 @@ pub(crate) fn longest_run(code: &Code, address: u32) -> BatchRun
     longest
 }
 
-/// The base register of the accesses of a run of so many words from an address on; None exactly
+/// The base register of the accesses of a run of `words` words from an address on; None exactly
 /// where these words are no run.
 pub fn run_base(code: &Code, address: u32, words: u8) -> Option<Reg>
     requires ascends { Ascends 0 code.now }

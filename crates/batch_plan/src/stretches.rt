@@ -9,7 +9,7 @@ use rv32_decode::{Instr, Reg};
 use templates::{Code, Reach};
 
 /// What words reach that may be the beginning of a run.
-#[derive(Clone, Copy, Debug, PartialEq, Eq)]
+#[derive(Clone, Copy, PartialEq, Eq)]
 pub(crate) struct RunPrefix {
     pub reach: Reach,
     /// Whether the last word is an access.
@@ -38,8 +38,8 @@ impl RunPrefix {
         self.reach.base
     }
 
-    /// So many words from an address on with the one behind them; None exactly where no run begins
-    /// with them all.
+    /// `words` words from an address on, and the next one; None exactly where no run begins with
+    /// them all.
     pub fn longer(&self, code: &Code, address: u32, words: u8) -> Option<RunPrefix>
         requires ascends { Ascends 0 code.now }
         requires stretch { IsStretchOf (code_of code.now) address words self.now }

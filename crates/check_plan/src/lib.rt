@@ -1,5 +1,7 @@
 #![tactic(auto)]
 //! The plan of a program: templates, and scratch registers that are dead where they can be.
+//!
+//! It hands on [`liveness`], which says which registers a place may use.
 
 mod laws;
 mod planning;

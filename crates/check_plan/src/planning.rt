@@ -13,7 +13,7 @@ use rv32_decode::{Instr, RegSet, defs, uses};
 use std::alloc::{AllocError, Global};
 use templates::{Plan, PlanEntry, Scratches, Template, list_places, template_of};
 
-/// The plan of the checks of the code of which `live` was made: the template and the scratch
+/// The plan of the checks of the code that `live` was made from: the template and the scratch
 /// registers of each place. No place polls as yet.
 pub fn plan_checks(alloc: Global, live: &Live<'_>) -> Result<Plan, AllocError>
     ensures value { IfOk result (λ plan. IsCheckPlan (code_of live.now) plan) }

@@ -23,7 +23,7 @@ pub const NO_SCRATCHES: Scratches = Scratches {
     u: NO_SCRATCH,
 };
 
-/// So many scratch registers of these candidates but x0, of which the dead ones come first.
+/// `count` scratch registers of these candidates but x0; the dead ones come first.
 pub fn choose(candidates: RegSet, dead: RegSet, count: u8) -> Scratches
     ensures value { result
         ≡ scratches_of (take count (in_order (bit dead) (members candidates))) }
@@ -40,7 +40,7 @@ pub fn choose(candidates: RegSet, dead: RegSet, count: u8) -> Scratches
     }
 }
 
-/// The scratch register of number k, where so many are taken: the dead ones, then the others.
+/// The scratch register of number k, where `count` are taken: the dead ones, then the others.
 fn scratch(dead: RegSet, others: RegSet, k: u8, count: u8) -> Scratch
     ensures value { result ≡ slice_index_or (take count (both dead others)) k no_scratch }
 {

@@ -1,4 +1,4 @@
-//! Runs of accesses behind one check, and the same programs without batches.
+//! Runs of accesses after one check, and the same programs without batches.
 
 use crate::cases::{Case, Input, try_cases};
 use std::test::Fail;

@@ -8,8 +8,8 @@ use std::thread::Threads;
 use test_calls::calls::{Expected, NODE};
 use test_calls::files::{executable, push_code, text_of};
 
-/// What IN holds: bytes, or the executable of code, an assembly text, and of data, of which the
-/// memory has so many bytes.
+/// What IN holds: bytes; or the executable of code, an assembly text, and of data, whose memory has
+/// this size.
 #[derive(Clone, Copy)]
 pub enum Input {
     Bytes(&'static [u8]),
@@ -87,9 +87,9 @@ fn try_text(
     try_held(rt, &[("IN", file)], calls, &answer)
 }
 
-/// Executes a program that prints nothing, of which the data's memory has 64 bytes, on one memory
-/// and rewritten, by `run` and by `sim`, and fails the test where it ends otherwise or its node
-/// counts something. Its code and its data are assembly texts.
+/// Executes a program that prints nothing, whose data's memory has 64 bytes, on one memory and
+/// rewritten, by `run` and by `sim`, and fails the test where it ends otherwise or its node counts
+/// something. Its code and its data are assembly texts.
 pub fn try_program(
     rt: &(impl Threads + Wait + Sync + AllocGlobal),
     code: &str,

@@ -41,9 +41,9 @@ fn try_code(
 }
 
 /// The place of a byte of the rewritten file, the bits of it that are changed, and what is told of
-/// it. The code begins at 0x3000 in the file, behind both segments of the original; the plan behind
-/// its ten words, at 0x3028; the map behind eight bytes for each of nine places, at 0x3070. The
-/// types of the three program headers are at 52, 84 and 116; behind each are an offset, two
+/// it. The code begins at 0x3000 in the file, after both segments of the original; the plan after
+/// its ten words, at 0x3028; the map after eight bytes for each of nine places, at 0x3070. The
+/// types of the three program headers are at 52, 84 and 116; after each are an offset, two
 /// addresses and two sizes.
 static CHANGES: [(usize, u8, &str); 14] = [
     (0x3027, 0x80, "shasta: code refused 21 PlanRefused Code\n"),

@@ -28,7 +28,7 @@ const LISTED: &str = "00010000: 000202b7 lui x5, 0x20
 00010014: 00000073 ecall
 ";
 
-const COMMANDS: [CommandRow; 8] = [
+static COMMANDS: [CommandRow; 8] = [
     CommandRow {
         words: "list IN",
         lines: &["shasta: cannot read IN\n"],
@@ -81,7 +81,7 @@ const COMMANDS: [CommandRow; 8] = [
 ];
 
 /// Words, and the status that they have also where nothing can be told.
-const UNTOLD: [(&str, u8); 5] = [
+static UNTOLD: [(&str, u8); 5] = [
     ("", 2),
     ("list a", 3),
     ("list L", 4),
@@ -101,7 +101,7 @@ const ERR_REFUSED: Faults<'static> = Faults {
 };
 
 /// The number of a put to the output, and that it fails, or is refused memory.
-const PUTS: [(u64, Faults<'static>, Faults<'static>); 4] = [
+static PUTS: [(u64, Faults<'static>, Faults<'static>); 4] = [
     (
         1,
         Faults {
@@ -194,7 +194,7 @@ fn is_cut(called: &Called, text: &str, status: u8, line: &str) -> Result<bool, F
 }
 
 /// Makes the call of a command where one put is to be refused, and fails the test where it isn't
-/// told so; a put behind the last one of its text is none, but there is a first one to each text.
+/// told so; a put after the last one of its text is none, but there is a first one to each text.
 fn try_put(
     rt: &(impl Threads + Wait + Sync + AllocGlobal),
     held: Held<'_>,
@@ -230,7 +230,7 @@ fn tells_which_call_failed(rt: HostRuntime) -> Result<(), Fail> {
     ];
     for command in &COMMANDS {
         try_files(&rt, &files, command)?;
-        for (number, fault, refusal) in PUTS {
+        for &(number, fault, refusal) in &PUTS {
             let failing = Held {
                 files: &files,
                 faults: fault,
@@ -255,7 +255,7 @@ fn ends_with_its_status_untold(rt: HostRuntime) -> Result<(), Fail> {
         ("L", LAYOUT),
         ("R", NAMED.as_bytes()),
     ];
-    for (words, status) in UNTOLD {
+    for &(words, status) in &UNTOLD {
         let answer = Expected {
             status,
             out: &[],

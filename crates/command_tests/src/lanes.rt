@@ -22,7 +22,7 @@ processor 3 exit 0
 node 0 read 0 exclusive 0 upgrade 0 false 0 invalidations 0 fallbacks 0 messages 2
 node 1 read 1 exclusive 0 upgrade 0 false ";
 
-/// What stands behind that: node 1 asks node 0 once, for both of its processors.
+/// What stands after that: node 1 asks node 0 once, for both of its processors.
 const BEHIND: &str = " invalidations 0 fallbacks 0 messages 2\n";
 
 /// Calls the program on an executable with these words.

@@ -14,8 +14,8 @@ use test_calls::samples::HI;
 /// The bytes of the longest file that is read.
 const LONGEST: usize = 33_554_432;
 
-/// The beginning and the last line of a layout, and what is told of it where there are so many
-/// empty lines between both that it is as long as a file that is read may be.
+/// The beginning and the last line of a layout, and what is told of it where empty lines between
+/// both make it as long as a file that is read may be.
 static LAST_LINES: [(&str, &str, &str); 6] = [
     ("", "?", "30 at line 33554432"),
     ("", "0x0 0x0 1 0", "31 at line 33554422"),
@@ -29,7 +29,7 @@ static LAST_LINES: [(&str, &str, &str); 6] = [
     ("", "0x20000 0x40 64 1", "35 at line 33554416"),
 ];
 
-/// A text of so many bytes, with empty lines between its beginning and its last line.
+/// A text of `len` bytes, with empty lines between its beginning and its last line.
 fn text_of_length(alloc: Global, len: usize, begin: &str, last: &str) -> Result<Vec<u8>, Fail> {
     let mut text = Vec::new(alloc);
     text.extend_from_slice(begin.as_bytes())?;
@@ -85,7 +85,7 @@ fn reads_no_longer_layout(rt: HostRuntime) -> Result<(), Fail> {
 }
 
 /// The file header of an executable with 65,535 program headers and no section header; the program
-/// header of the code, whose three words stand behind all of them; and that of an empty segment.
+/// header of the code, whose three words stand after all of them; and that of an empty segment.
 const FILE_HEADER: &str = "464c457f 00010101 00000000 00000000 00f30002 00000001 00010000 00000034
     00000000 00000000 00200034 0000ffff 00000000";
 

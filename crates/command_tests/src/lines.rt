@@ -155,7 +155,7 @@ fn parts_of<'a>(command: &Command<'a>) -> (&'a str, u8, u32, u64) {
     match command {
         Command::Rewrite(arguments) => (arguments.input, 0, 0, 0),
         Command::Run(arguments) => {
-            let nodes = arguments.execution.nodes.number();
+            let nodes = arguments.execution.nodes.as_u8();
             let budget = arguments.execution.budget.number();
             (arguments.execution.file, nodes, 0, budget)
         }
@@ -164,12 +164,12 @@ fn parts_of<'a>(command: &Command<'a>) -> (&'a str, u8, u32, u64) {
         Command::Generate(arguments) => (arguments.output, 0, arguments.number, 0),
         Command::Assemble(arguments) => (arguments.text, 0, 0, 0),
         Command::One(arguments) => {
-            let nodes = arguments.nodes.number();
+            let nodes = arguments.nodes.as_u8();
             let budget = arguments.budget.number();
             (arguments.file, nodes, arguments.order, budget)
         }
         Command::Sim(arguments) => {
-            let nodes = arguments.execution.nodes.number();
+            let nodes = arguments.execution.nodes.as_u8();
             let budget = arguments.execution.budget.number();
             (arguments.execution.file, nodes, arguments.order, budget)
         }

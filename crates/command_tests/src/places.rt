@@ -260,7 +260,7 @@ static PLACES: [RefusalRow; 20] = [
     },
 ];
 
-/// So many bytes hold 65,535 program headers, of which the last begins at 0x1ffff4.
+/// The size of a file that holds 65,535 program headers; the last begins at 0x1ffff4.
 const MOST: usize = 2097172;
 
 /// Rules that the last of 65,535 program headers breaks.
@@ -295,7 +295,7 @@ fn names_the_first_and_the_last_place(rt: HostRuntime) -> Result<(), Fail> {
 /// A line of a layout that names the first of three shared lines.
 const NAMED: &str = "0x20000 0x40 64 0\n";
 
-/// Lines that break a rule behind that one, and its number.
+/// Lines that break a rule after that one, and its number.
 static FAULTY: [(&str, &str); 6] = [
     ("0x20040 0x40 64", "30"),
     ("0x20040 0x40 96 0", "31"),
@@ -346,7 +346,7 @@ fn try_layouts(rt: &(impl Threads + Wait + Sync + AllocGlobal), file: &[u8]) -> 
     Ok(())
 }
 
-/// Fails the test where the program isn't refused for a line that stands last, behind lines that
+/// Fails the test where the program isn't refused for a line that stands last, after lines that
 /// name nothing.
 fn try_last(
     rt: &(impl Threads + Wait + Sync + AllocGlobal),

@@ -44,7 +44,7 @@ static SMALL: [RefusalRow; 18] = [
         bytes: &[(5, 2)],
         line: "3 NotElf32",
     },
-    // e_type, and e_flags behind it
+    // e_type, and e_flags after it
     RefusalRow {
         len: WHOLE,
         bytes: &[(16, 3), (36, 1)],
@@ -60,7 +60,7 @@ static SMALL: [RefusalRow; 18] = [
         bytes: &[(36, 1)],
         line: "6 Flags 0x00000001",
     },
-    // e_phnum 0, in a whole file and where the file ends behind its header; e_phentsize
+    // e_phnum 0, in a whole file and where the file ends after its header; e_phentsize
     RefusalRow {
         len: WHOLE,
         bytes: &[(44, 0)],
@@ -235,7 +235,7 @@ const EMPTY_HEADER: &str =
 const CODE_SECTION: &str = "00000000 00000001 00000006 00010000 00008000 0000000a 00000000 00000000
     00000004 00000000";
 
-/// So many instructions `lw x5, 0(x5)` have more rewritten words than there may be.
+/// How many instructions `lw x5, 0(x5)` have more rewritten words than there may be.
 const MANY: usize = 470_000;
 
 /// The rules, ascending.
@@ -356,8 +356,8 @@ static RULES: [RefusalRow; 20] = [
     },
 ];
 
-/// A file that breaks no rule but where it has many loads: a thousand program headers, of which two
-/// count, the header of a section, the data, and so many loads before the code.
+/// A file that breaks no rule but where it has many loads: a thousand program headers, only two of
+/// which count, the header of a section, the data, and `loads` loads before the code.
 pub fn file_of(alloc: Global, loads: usize) -> Result<Vec<u8>, Fail> {
     let mut load = Vec::new(alloc);
     push_code(alloc, &mut load, "lw x5, 0(x5)")?;

@@ -99,7 +99,7 @@ static RECORDS: [(&str, &str, &str); 17] = [
 ];
 
 /// The first take in the record, by another text, and why it is refused then; and other texts of
-/// the last one, each of which is refused too.
+/// the last one, each refused too.
 static FIRST_TAKES: [(&str, &str); 3] = [
     ("take 7 1 6", "44 at node 0 entry 1"),
     ("take 8 0 7", "45 at node 0 entry 1"),

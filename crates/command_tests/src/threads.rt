@@ -44,7 +44,7 @@ ecall
 pub const COUNTED: &[u8] = b"output 4\n\xd0\x07\x00\x00\nprocessor 0 exit 0\nprocessor 1 exit 0\n";
 
 /// The lines of the record of the bytes that are stored, between those of the budget and of the
-/// takes. The rewritten code has a word for each instruction, for word 0 and for the end behind the
+/// takes. The rewritten code has a word for each instruction, for word 0 and for the end after the
 /// code; 1 more for a branch forward, 2 more for one backward and for a jump, and 7 more for a
 /// store.
 const RECORDED: &str = "batch 1
@@ -196,7 +196,7 @@ fn runs_with_a_record(rt: HostRuntime) -> Result<(), Fail> {
     try_cases(&rt, &CASES)
 }
 
-/// Whether a text is that of 200 bytes, each of which is `A` or `B`, and of two processors.
+/// Whether a text is that of 200 bytes, each an `A` or a `B`, and of two processors.
 fn is_mixed(text: &str) -> bool {
     let Some(rest) = text.strip_prefix("output 200\n") else {
         return false;

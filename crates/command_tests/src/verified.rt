@@ -9,16 +9,16 @@ use test_calls::calls::Expected;
 use test_calls::files::{executable, push_words};
 use test_calls::samples::USAGE;
 
-/// The rewritten words of the program by a plan whose load spills x1, behind `sw x1, -4(x0)` and
+/// The rewritten words of the program by a plan whose load spills x1, after `sw x1, -4(x0)` and
 /// before `lw x1, -4(x0)`, in place of taking x10. The runtime's own words are no instructions, so
 /// all are in hexadecimal.
 const CODE: &str = "0000102b 000202b7 fe102e23 00028093 0000c863 0002a303 f0300093 00131663
     0002810b 0002a303 ffc02083 00030513 05d00893 0000300b 0000002b";
 
 /// What differs from the file that `rewrite` makes: at 120, 132 and 136 the offset of the code's
-/// segment, which stands behind all else, and its sizes; in the map, whose six places of eight
-/// bytes stand at 0x3064, the new addresses behind the load.
-const CHANGES: [(usize, u8); 8] = [
+/// segment, which stands after all else, and its sizes; in the map, whose six places of eight
+/// bytes stand at 0x3064, the new addresses after the load.
+static CHANGES: [(usize, u8); 8] = [
     (120, 0x58),
     (121, 0x31),
     (132, 0x3c),
@@ -41,7 +41,7 @@ fn file_with(
 ) -> Result<Vec<u8>, Fail> {
     let mut out = rewritten(rt, file)?;
     push_words(&mut out, CODE)?;
-    for (offset, byte) in CHANGES {
+    for &(offset, byte) in &CHANGES {
         if let Some(place) = out.get_mut(offset) {
             *place = byte;
         }

@@ -20,7 +20,7 @@ ecall
 /// The end of its run, without counts.
 const EXITED: &str = "output 0\n\nprocessor 0 exit 0\n";
 
-/// The record of its run by a plan without batches: there are 20 words, of which it executes 14.
+/// The record of its run by a plan without batches: there are 20 words, and it executes 14 of them.
 const RECORD: &str = "shasta-record 2
 nodes 1
 budget 100000000
@@ -81,8 +81,8 @@ fn replays_a_verified_file(rt: HostRuntime) -> Result<(), Fail> {
 }
 
 /// A call, its status, and what is told, where FILE has the plan without batches and R the record
-/// of the run by it. The file of the plan is read behind the executable and before the record, and
-/// judged behind both texts.
+/// of the run by it. The file of the plan is read after the executable and before the record, and
+/// judged after both texts.
 static REFUSED: [(&str, u8, &str); 7] = [
     // the program's own plan has another number of words
     ("replay IN R", 7, "shasta: record refused 47 at line 5\n"),

@@ -5,7 +5,7 @@ abbrev pub is_zero : ℕ → Bool
 is_zero byte = byte == 0
 
 -- for each offset in the names up to the last zero byte, where the first zero byte is from there
--- on; there is none behind
+-- on; there is none after
 pub record AreEnds (names ends : List ℕ) : Type 0 where
   pub found : (offset : ℕ) → offset < length ends
       → position is_zero (drop offset names) ≡ Some (slice_index ends offset - offset)

@@ -14,7 +14,7 @@ use crate::rules::{has_range, is_load};
 use crate::{Section, Segment};
 use std::alloc::{AllocError, Global};
 
-/// SHT_NOBITS: the type of a section of which the file has no bytes.
+/// SHT_NOBITS: the type of a section without bytes in the file.
 pub const NO_BITS: u32 = 8;
 
 /// The loadable segments, in the order of the program headers.

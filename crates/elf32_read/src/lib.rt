@@ -20,7 +20,7 @@ use std::alloc::Global;
 use std::marker::Model;
 
 /// A loadable segment. Its bytes are those of the file; the rest of its memory is zero.
-#[derive(Clone, Copy, Debug)]
+#[derive(Clone, Copy)]
 pub struct Segment<'a> {
     /// Permissions: the sum of 1 (executable), 2 (writable) and 4 (readable).
     pub flags: u32,
@@ -33,7 +33,7 @@ pub struct Segment<'a> {
 }
 
 /// A section. Its name and its bytes are those of the file, and empty where it has none.
-#[derive(Clone, Copy, Debug)]
+#[derive(Clone, Copy)]
 pub struct Section<'a> {
     pub name: &'a [u8],
     /// The type (sh_type).
@@ -49,7 +49,7 @@ pub struct Section<'a> {
 }
 
 /// An executable, whose segments' and sections' bytes are those of a file.
-#[derive(Debug, Drop)]
+#[derive(Drop)]
 pub struct Elf<'a> {
     entry: u32,
     flags: u32,

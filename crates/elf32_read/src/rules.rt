@@ -124,7 +124,7 @@ fn has_section_table(file: &[u8], header: FileHeader) -> bool
         || header.e_shentsize == SECTION_HEADER_SIZE && has_range(file, header.e_shoff, size)
 }
 
-/// Whether so many bytes from an offset on are in the file.
+/// Whether `size` bytes from an offset on are in the file.
 pub fn has_range(file: &[u8], offset: u32, size: u32) -> bool
     ensures { result ≡ reading.has_range file.now offset size }
 {

@@ -44,7 +44,7 @@ abbrev pub sections_end : ℕ → List Section → ℕ
 sections_end end [] = end
 sections_end end (s ∷ ss) = sections_end (aligned end + length s.bytes) ss
 
--- the names of the sections one after another, each with a zero byte behind it
+-- the names of the sections one after another, each with a zero byte after it
 abbrev pub name_list : List Section → List ℕ
 name_list sections = flat_map (λ s. s.name ++ 0 ∷ []) sections
 
@@ -52,7 +52,7 @@ name_list sections = flat_map (λ s. s.name ++ 0 ∷ []) sections
 unfoldable pub names : List Section → List ℕ
 names sections = 0 ∷ (name_list sections ++ (codes ".shstrtab" ++ 0 ∷ []))
 
--- where the table of names stands, and where the section headers do, behind the segments' end
+-- where the table of names stands, and where the section headers do, after the segments' end
 abbrev pub names_offset : ℕ → List Section → ℕ
 names_offset end sections = aligned (sections_end end sections)
 

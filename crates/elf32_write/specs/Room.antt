@@ -1,8 +1,8 @@
--- Helps the code alone: room for segments and sections behind what stands before them.
+-- Helps the code alone: room for segments and sections after what stands before them.
 use Rattle.std.specs.Prelude.{ℕ, ◌+◌, ◌^◌, List, [], ◌∷◌, length}
 use Rattle.elf32_read.specs.Elf.{Segment, Section}
 
--- more than these never stand behind an offset
+-- more than these never stand after an offset
 abbrev pub segments_room : List Segment → ℕ
 segments_room [] = 0
 segments_room (s ∷ ss) = (4096 + length s.bytes) + segments_room ss

@@ -16,7 +16,7 @@ use std::marker::Model;
 use table::functions_in;
 
 /// A function that an executable names.
-#[derive(Clone, Copy, Debug)]
+#[derive(Clone, Copy)]
 pub struct Symbol<'a> {
     pub name: &'a [u8],
     /// The address of its first byte.
@@ -39,7 +39,7 @@ impl<'a> Symbol<'a> {
 }
 
 /// The functions that an executable names, in the order of its table.
-#[derive(Debug, Drop)]
+#[derive(Drop)]
 pub struct Symbols<'a> {
     functions: Vec<Symbol<'a>>,
 }

@@ -6,7 +6,7 @@ use rv32_asm::{AsmRefused, assemble, check_text};
 use std::alloc::Global;
 use std::test::Fail;
 
-/// Names before and behind their lines, an entry, zeros and every other directive.
+/// Names before and after their lines, an entry, zeros and every other directive.
 const NAMES: &[u8] = b"# a loop
 .entry start
 .segment rw 0x20000

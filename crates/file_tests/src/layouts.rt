@@ -6,7 +6,7 @@ use block_layout::{BlockRange, Layout, LayoutRefused, Lines, Ranges, layout_with
 use std::alloc::{AllocError, Global};
 use std::test::Fail;
 
-/// So many shared lines from the address 0x20000 on.
+/// `lines` shared lines from the address 0x20000 on.
 fn shared(alloc: Global, lines: u32) -> Result<Ranges, AllocError>
     requires some { 0 < lines }
     requires few { lines ≤ 128 }
@@ -92,7 +92,7 @@ fn has_blocks(layout: &Layout) -> bool {
     layout.blocks() == 64 && layout.shared_lines() == 128
 }
 
-/// Whether a block has this home, this first line, and so many lines in it and before it.
+/// Whether a block has this home, this first line, this number of lines, and this number before it.
 fn has_place(layout: &Layout, block: u32, home: u8, first: u32, lines: u32, start: u32) -> bool {
     block < layout.blocks()
         && layout.home(block) == home

@@ -6,7 +6,7 @@ use elf32_write::{writable, write_elf};
 use std::alloc::Global;
 use std::test::Fail;
 
-/// The segments of a code and of data, of which the data's memory has so many bytes.
+/// The segments of a code and of data, whose memory has this size.
 fn segments<'a>(
     alloc: Global,
     code: &'a [u8],
@@ -144,7 +144,7 @@ fn sections_come_back(rt: HostRuntime) -> Result<(), Fail> {
     Err(Fail::from("another executable"))
 }
 
-/// Whether there is an executable of these flags and of three bytes in so many of memory.
+/// Whether there is an executable of these flags and of three bytes in memory of this size.
 fn is_made(alloc: Global, flags: u32, size: u32) -> Result<bool, Fail> {
     let parts = segments(alloc, b"", b"123", size)?;
     Ok(Elf::make(0, flags, parts, Vec::new(alloc)).is_some())

@@ -7,7 +7,7 @@ use rv32_decode::Instr;
 use rv32_program::aligned_target;
 
 /// The direct successors of an instruction.
-#[derive(Clone, Copy, Debug, PartialEq, Eq)]
+#[derive(Clone, Copy, PartialEq, Eq)]
 pub struct Next {
     /// The address after it; None exactly at JAL, JALR, EBREAK and illegal words.
     pub first: Option<u32>,
@@ -16,7 +16,7 @@ pub struct Next {
 }
 
 /// The direct successors of a code word, by the numbers of code words.
-#[derive(Clone, Copy, Debug, PartialEq, Eq)]
+#[derive(Clone, Copy, PartialEq, Eq)]
 pub struct Edges {
     /// The code word right after it, where that is a successor.
     pub first: Option<u32>,

@@ -11,7 +11,7 @@ use std::alloc::{AllocError, Global};
 
 /// For each node the last edge into it, and for each edge the one before it into the same node.
 /// Edge e is numbered e + 1, and 0 is none. The edges 2 p and 2 p + 1 are those of node p.
-#[derive(Debug, Drop)]
+#[derive(Drop)]
 pub struct Predecessors {
     pub heads: Vec<u32>,
     pub links: Vec<u32>,

@@ -13,7 +13,7 @@ use std::alloc::{AllocError, Global};
 
 /// One code word: the registers that it uses and defines, as sets of bits, and the numbers of the
 /// code words where it leads.
-#[derive(Clone, Copy, Debug)]
+#[derive(Clone, Copy)]
 pub struct FlowNode {
     pub uses: u32,
     pub defs: u32,

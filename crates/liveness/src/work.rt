@@ -7,7 +7,7 @@ ghost use Rattle.liveness.specs.Marks.{Marks};
 use std::alloc::{AllocError, Global};
 
 /// Nodes that wait: a stack, and a flag for each node that says whether it stands there.
-#[derive(Debug, Drop)]
+#[derive(Drop)]
 pub struct Worklist {
     pub queue: Vec<u32>,
     pub queued: Vec<bool>,

@@ -56,7 +56,7 @@ addi x17, x0, 93
 ecall
 ";
 
-/// What a node counts that sent so many messages, and nothing else.
+/// What a node counts that sent `messages` messages, and nothing else.
 fn sent(messages: u64) -> NodeCounts {
     NodeCounts {
         read: 0,
@@ -69,7 +69,7 @@ fn sent(messages: u64) -> NodeCounts {
     }
 }
 
-/// The default layout of so many nodes.
+/// The default layout of `nodes` nodes.
 pub(crate) fn layout_over(alloc: Global, program: &Program<'_>, nodes: u8) -> Result<Layout, Fail>
     requires some { 0 < nodes }
     requires few { nodes ≤ 16 }
@@ -270,8 +270,8 @@ static READER: [Entry; 3] = [
     },
 ];
 
-/// Whether each node ended with code 0, the first sent so many messages and counted nothing else,
-/// and each other read one block and sent two messages.
+/// Whether each node ended with code 0, the first sent `messages` messages and counted nothing
+/// else, and each other read one block and sent two messages.
 fn have_read(core: &Core<'_>, messages: u64) -> bool {
     let reader = NodeCounts { read: 1, ..sent(2) };
     for node in 0..core.layout().nodes() {
@@ -329,7 +329,7 @@ fn have_added(
     Ok(outcome.output.as_slice() == SUM && outcome.ends.as_slice() == ends.as_slice())
 }
 
-/// Whether nodes in threads, over links that hold one wire, have read, of which the first sent 30
+/// Whether nodes in threads, over links that hold one wire, have read, and the first sent 30
 /// messages.
 fn have_raced(
     rt: &(impl Threads + Wait + Sync + AllocGlobal),
@@ -371,7 +371,7 @@ fn does(
     Ok(done)
 }
 
-/// Has so many nodes of a rewritten program do so, and tells whether they did.
+/// Has the nodes of a rewritten program do so, and tells whether they did.
 fn has_come(
     rt: &(impl Threads + Wait + Sync + AllocGlobal),
     rewritten: &Rewritten,

@@ -100,7 +100,7 @@ static SEQUENCES: [Sequence; 10] = [
             0x00008463, 0x0002910b, 0x0072a32f, 0xffc02083, 0xff802103, 0x0000300b,
         ],
     },
-    // a run of two loads, by dead registers; behind it the single sequences
+    // a run of two loads, by dead registers; after it the single sequences
     Sequence {
         code: "lui x5, 0x20; addi x6, x0, 1; lui x28, 0x10; jalr x1, 20(x28); lw x6, 0(x5);
                lw x7, 4(x5); add x10, x6, x7; addi x17, x0, 93; ecall",
@@ -132,7 +132,7 @@ static SEQUENCES: [Sequence; 10] = [
     },
 ];
 
-/// Whether the image has these words, and maps the place to the first word behind its batch.
+/// Whether the image has these words, and maps the place to the first word after its batch.
 fn has_words(image: &Image, sequence: &Sequence) -> bool {
     let mut at = sequence.at;
     for word in sequence.words {

@@ -14,7 +14,7 @@ use std::test::Fail;
 use test_calls::files::executable;
 use test_calls::samples::HI;
 
-/// So many steps of a processor.
+/// Makes `steps` steps of a processor.
 fn run(machine: &mut OneMemory<'_>, p: u8, steps: usize) -> Result<(), StepRefused>
     requires { p < (original_of machine.old).nodes }
     ensures { original_of machine.new ≡ original_of machine.old }
@@ -47,8 +47,9 @@ fn print_and_end(machine: &mut OneMemory<'_>) -> Result<bool, Fail>
     Ok(first && ended && stand(machine, b"hi\nhi\n", [exit, exit]))
 }
 
-/// What processor 1 does while processor 0 has a reservation: so many instructions that do nothing,
-/// and a word. Whether the word ends the reservation, and whether processor 1 may break it before.
+/// What processor 1 does while processor 0 has a reservation: a number of instructions that do
+/// nothing, and a word. Whether the word ends the reservation, and whether processor 1 may break it
+/// before.
 struct Case {
     /// Puts the address to be reserved in x7; x5 is 0x20000.
     address: &'static str,
@@ -122,7 +123,7 @@ static CASES: [Case; 9] = [
         ends: true,
         breaks: false,
     },
-    // an AMO behind another instruction
+    // an AMO after another instruction
     Case {
         address: "addi x7, x5, 0",
         nothing: 1,
@@ -174,7 +175,7 @@ fn act(machine: &mut OneMemory<'_>, case: &Case, breaks: bool) -> Result<(), Fai
     Ok(())
 }
 
-/// How processor 0 ends, where processor 1 acts behind its LR.
+/// How processor 0 ends, where processor 1 acts after its LR.
 fn end_of(machine: &mut OneMemory<'_>, case: &Case, breaks: bool) -> Result<Option<Exit>, Fail>
     requires { (original_of machine.old).nodes ≡ 2 }
 {

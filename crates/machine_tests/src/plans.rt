@@ -63,7 +63,7 @@ static KNOWN: [Known; 3] = [
             (0x00010018, None),
         ],
         dead: &[
-            // x5 and x7 are used in the loop and behind it; the loop's head defines x5
+            // x5 and x7 are used in the loop and after it; the loop's head defines x5
             (0x00010000, Some((0xffffff5f, 0xffffff7f, true, true))),
             (0x00010004, Some((0xffffff5f, 0xffffff5f, true, true))),
             (0x00010008, Some((0xffffff5f, 0xffffff5f, true, true))),
@@ -72,7 +72,7 @@ static KNOWN: [Known; 3] = [
             (0x00010010, Some((0xffffffff, 0xffffff3f, true, true))),
         ],
         scratches: &[
-            // all are dead behind the store
+            // all are dead after the store
             (0x00010010, Some(((1, false), (2, false)))),
         ],
     },
@@ -87,7 +87,7 @@ static KNOWN: [Known; 3] = [
             (0x0001000c, Some((0x00000001, 0x00000041, false, false))),
         ],
         scratches: &[
-            // none is dead behind the load, which takes one
+            // none is dead after the load, which takes one
             (0x0001000c, Some(((1, true), (0, false)))),
         ],
     },

@@ -8,7 +8,7 @@ use buf_pool::{Buf, Pool};
 use dsm_protocol::Protocol;
 use flag_memory::FirstBytes;
 use home_directory::Directory;
-use home_directory::dsm_messages::{Message, Need, Post, Sends};
+use home_directory::dsm_messages::{Message, Need, Post};
 use state_table::State;
 use std::alloc::{AllocError, Global};
 use std::test::Fail;
@@ -16,7 +16,7 @@ use std::test::Fail;
 /// How many times all lists are looked through, at most, after a want.
 const PASSES: u32 = 1000;
 
-/// So many nodes with so many blocks of a line each, from address 0x20000 on.
+/// `nodes` nodes with `lines` blocks of a line each, from address 0x20000 on.
 fn nodes_of(alloc: Global, lines: u32, nodes: u8) -> Result<Protocol, AllocError>
     requires some { 0 < lines }
     requires few { lines ≤ 65536 }
@@ -27,7 +27,7 @@ fn nodes_of(alloc: Global, lines: u32, nodes: u8) -> Result<Protocol, AllocError
     Protocol::new(alloc, &layout, &FirstBytes::new(Vec::new(alloc)), nodes)
 }
 
-/// The layout of so many lines from address 0x20000 on, each a block, for `nodes` nodes.
+/// The layout of `lines` lines from address 0x20000 on, each a block, for `nodes` nodes.
 fn layout_of(alloc: Global, lines: u32, nodes: u8) -> Result<Layout, AllocError>
     requires some { 0 < lines }
     requires few { lines ≤ 65536 }
@@ -174,7 +174,7 @@ fn two_sharers_upgrade_at_once(rt: HostRuntime) -> Result<(), Fail> {
     Ok(())
 }
 
-/// Has a node want block 0, and fails the test where so many messages aren't taken then.
+/// Has a node want block 0, and fails the test where `takes` messages aren't received then.
 fn try_want(protocol: &mut Protocol, node: u8, need: Need, takes: u64) -> Result<(), Fail> {
     if want(protocol, node, 0, need)? && take_all(protocol)? == takes {
         return Ok(());
@@ -206,16 +206,13 @@ fn home_of_sixteen_sharers_answers_a_write(rt: HostRuntime) -> Result<(), Fail> 
     let layout = layout_of(rt.alloc(), 1, 16)?;
     let mut directory = Directory::new(rt.alloc(), &layout, 0, 16)?;
     for node in 1..16u8 {
-        let mut forwards = Sends::new();
-        directory.ask(node, 0, Need::Read, buffer(rt.alloc())?, &mut forwards);
-        let mut next = Sends::new();
-        directory.done(node, 0, &mut next);
+        let forwards = directory.ask(node, 0, Need::Read, buffer(rt.alloc())?);
+        let next = directory.done(node, 0);
         if forwards.len() != 1 || next.len() != 0 {
             return Err(Fail::new(format_args!("node {node} reads")));
         }
     }
-    let mut sends = Sends::new();
-    directory.ask(3, 0, Need::Write, buffer(rt.alloc())?, &mut sends);
+    let sends = directory.ask(3, 0, Need::Write, buffer(rt.alloc())?);
     if are_answers(sends.as_slice()) {
         return Ok(());
     }
@@ -262,13 +259,12 @@ fn requests_for_two_blocks_wait_each_in_order(rt: HostRuntime) -> Result<(), Fai
     let layout = layout_of(rt.alloc(), 2, 4)?;
     let mut directory = Directory::new(rt.alloc(), &layout, 0, 4)?;
     for (asks, from, block, requester) in AT_HOME {
-        let mut sends = Sends::new();
-        if asks {
+        let sends = if asks {
             let buf = buffer(rt.alloc())?;
-            directory.ask(from, block, Need::Write, buf, &mut sends);
+            directory.ask(from, block, Need::Write, buf)
         } else {
-            directory.done(from, block, &mut sends);
-        }
+            directory.done(from, block)
+        };
         let begun = match sends.as_slice().first() {
             Some(post) => sent(post).1.1,
             None => 0,

@@ -11,8 +11,8 @@ use test_calls::samples::HI;
 /// The templates of the places of `HI`: four plain words, a call, two plain words, a call, a stop.
 const TEMPLATES: [u8; 9] = [0, 0, 0, 0, 7, 0, 0, 7, 9];
 
-/// Whether an executable has three segments, of which the first is read-only, the second writable
-/// and the third code, and begins at the first place.
+/// Whether an executable has three segments, the first read-only, the second writable and the third
+/// code, and begins at the first place.
 fn has_segments(elf: &Elf<'_>) -> bool {
     for (segment, flags) in elf.segments().iter().zip([4, 6, 5]) {
         if segment.flags != flags {
@@ -32,7 +32,7 @@ fn is_plan(plan: &Section<'_>) -> bool {
     plan.name == b".shasta.plan".as_slice() && plan.kind == 0x80000001
 }
 
-/// Whether a map has eight bytes for each place, and the last is that behind the program.
+/// Whether a map has eight bytes for each place, and the last is that after the program.
 fn is_map(map: &Section<'_>) -> bool {
     map.bytes.len() == 72
         && map.bytes.ends_with(&[0x20, 0, 1, 0, 0x24, 0, 0, 0xa0])
@@ -71,7 +71,7 @@ fn part_refused(alloc: Global, offset: usize) -> Result<Option<FilePart>, Fail> 
     }
 }
 
-/// The code stands at 0x3000 of the file, the plan behind its 40 bytes, the map behind those 72.
+/// The code stands at 0x3000 of the file, the plan after its 40 bytes, the map after those 72.
 #[test]
 fn takes_the_file_alone(rt: HostRuntime) -> Result<(), Fail> {
     let alloc = rt.alloc();

@@ -20,8 +20,8 @@ const OTHER_LOOK: &[u8] = &[
 type Refusal = (&'static str, u32);
 
 /// Where bytes of the file of `LOOP` are changed, one after another, and what it is refused for
-/// then. The code stands at 0x3000 of the file, the plan behind its 80 bytes. The store's place is
-/// the fifth, and its eight words stand behind seven others.
+/// then. The code stands at 0x3000 of the file, the plan after its 80 bytes. The store's place is
+/// the fifth, and its eight words stand after seven others.
 const PLANS: [(usize, &[u8], Option<Refusal>); 3] = [
     (0x3071, &[7, 2], Some(("BadPlan", 0x00010010))),
     (0x3071, &[2, 1], Some(("BadCode", 0xa000001c))),
@@ -54,8 +54,8 @@ fn refusal_with(alloc: Global, offset: usize) -> Result<Option<Refusal>, Fail> {
     refusal(alloc, &file, &out)
 }
 
-/// The entry stands at 0x18 of the file, the code at 0x3000, the plan behind its 40 bytes, the map
-/// behind those 72, and 72 further on the names, of which the plan's is the first.
+/// The entry stands at 0x18 of the file, the code at 0x3000, the plan after its 40 bytes, the map
+/// after those 72, and 72 further on the names; the plan's is the first.
 #[test]
 fn refuses_what_was_changed(rt: HostRuntime) -> Result<(), Fail> {
     let alloc = rt.alloc();

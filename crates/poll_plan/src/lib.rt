@@ -1,5 +1,7 @@
 #![tactic(auto)]
 //! The polls of a plan: where a loop may close.
+//!
+//! It hands on [`flow_graph`], on whose cycles polls stand.
 
 mod polls;
 

@@ -14,7 +14,7 @@ impl Piece for Letter {
     }
 }
 
-/// The number and the item of the packet behind so many others.
+/// The number and the item of the packet after `k` others.
 fn made(sender: &Sender<Letter>, k: u8) -> Result<Option<(u64, char)>, AllocError> {
     match sender.packet(k)? {
         Some(packet) => {

@@ -4,8 +4,8 @@ use run_record::{RecordRefused, read_record, write_record};
 use std::alloc::{AllocError, Global};
 use std::test::Fail;
 
-/// The lines of the record of a run of two nodes of which one reads what the other has, in the
-/// first version.
+/// The lines of the record of a run of two nodes, where one reads what the other has, in the first
+/// version.
 pub(crate) const LINES: [&str; 16] = [
     "shasta-record 1\n",
     "nodes 2\n",
@@ -101,8 +101,8 @@ static NAMED_CASES: [(usize, &str, u8, usize); 16] = [
     (10, "take 3 1 9223372036854775792\n", 41, 11),
 ];
 
-/// Texts of the sixth line of the first record, each of which breaks another rule; and likewise of
-/// its fourteenth.
+/// Texts of the sixth line of the first record; each breaks another rule; and likewise of its
+/// fourteenth.
 static SIXTH: [(&str, u8); 3] = [
     ("take 07 0 6\n", 40),
     ("take 5 0 6\n", 41),

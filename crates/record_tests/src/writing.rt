@@ -22,7 +22,7 @@ const TWO_RANGES: [&str; 8] = [
     "end\n",
 ];
 
-/// Lines, one behind the other.
+/// Lines, one after the other.
 fn joined(alloc: Global, lines: &[&str]) -> Result<Vec<u8>, AllocError> {
     let mut text = Vec::new(alloc);
     for line in lines {

@@ -4,7 +4,7 @@ use Rattle.elf32_read.specs.Elf.{Elf, Segment}
 use Rattle.rewriter.specs.jump_map.Image.{Cell, image_base, address_of_word}
 use Rattle.rewriter.specs.RewrittenFile.{code_bytes, segment_with}
 
--- the segments behind the original's
+-- the segments after the original's
 abbrev pub later_segments : Elf → Elf → List Segment
 later_segments original e = drop (length original.segments) e.segments
 
@@ -23,7 +23,7 @@ pub record IsFirstOther (bytes wanted : List ℕ) (number : ℕ) : Type 0 where
   pub same : (k : ℕ) → k < number → bytes_of_word bytes k ≡ bytes_of_word wanted k
   pub differs : bytes_of_word bytes number ≢ bytes_of_word wanted number
 
--- the segments behind the original's aren't one of as many rewritten words as the image has: the
+-- the segments after the original's aren't one of as many rewritten words as the image has: the
 -- address is that of its first word
 pub record HasNoWords (original e : Elf) (image : List Cell) (a : ℕ) : Type 0 where
   pub none : (bytes : List ℕ) → HasWords original e (length image) bytes → ⊥

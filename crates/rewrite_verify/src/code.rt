@@ -15,7 +15,7 @@ use rewriter::jump_map::{IMAGE_BASE, Image};
 use std::alloc::{AllocError, Global};
 
 /// The address of the first word of a file that isn't an image's; that of the first word of all
-/// where the segments behind the original's aren't one of as many words.
+/// where the segments after the original's aren't one of as many words.
 pub(crate) fn first_bad_word(
     alloc: Global,
     original: &Elf<'_>,
@@ -36,7 +36,7 @@ pub(crate) fn first_bad_word(
     }
 }
 
-/// The bytes of the one segment behind the original's, which holds so many rewritten words; None
+/// The bytes of the one segment after the original's, which holds `count` rewritten words; None
 /// exactly where there is another number of segments, or that is no such segment.
 fn words_of<'a>(original: &Elf<'_>, elf: &Elf<'a>, count: u32) -> Option<&'a [u8]>
     requires few { count ≤ most_words }
@@ -52,7 +52,7 @@ fn words_of<'a>(original: &Elf<'_>, elf: &Elf<'a>, count: u32) -> Option<&'a [u8
     }
 }
 
-/// The one segment behind the original's; None exactly where there is another number of segments.
+/// The one segment after the original's; None exactly where there is another number of segments.
 fn later_segment<'a>(original: &Elf<'_>, elf: &Elf<'a>) -> Option<Segment<'a>>
     ensures value { MatchOption result
         ((s : Fields) → later_segments original.now elf.now ≢ s ∷ [])
@@ -67,7 +67,7 @@ fn later_segment<'a>(original: &Elf<'_>, elf: &Elf<'a>) -> Option<Segment<'a>>
     }
 }
 
-/// Whether a segment is one of rewritten code with so many bytes.
+/// Whether a segment is one of rewritten code with `size` bytes.
 fn is_code(segment: &Segment<'_>, size: u32) -> bool
     ensures value { IsTrue result
         ↔ ((segment_of segment.now ≡ segment_with segment.now.bytes.now)

@@ -1,5 +1,8 @@
 #![tactic(auto)]
 //! Verifies the file of a rewritten program that something else made, by any admissible plan.
+//!
+//! It hands on [`rewriter`], whose files it judges, and what it judges them by: [`check_plan`] and
+//! [`jump_map`].
 
 mod code;
 mod entries;

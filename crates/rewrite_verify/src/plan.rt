@@ -21,8 +21,8 @@ use rewriter::plan_section;
 use std::alloc::Global;
 use templates::{Plan, PlanEntry, list_places};
 
-/// The plan that a file says, each of whose entries serves its place in the code of which `live`
-/// was made, and no two of whose runs share an address.
+/// The plan that a file says. Each entry serves its place in the code that `live` was made from,
+/// and no two runs share an address.
 pub(crate) fn plan_of_file(
     alloc: Global,
     live: &Live<'_>,
@@ -38,7 +38,7 @@ pub(crate) fn plan_of_file(
     }
 }
 
-/// The bytes of the one section of a plan, eight for each of so many places; None exactly where no
+/// The bytes of the one section of a plan, eight for each of `places` places; None exactly where no
 /// section is one, or more are, or it has another number of bytes.
 fn bytes_of_plan<'a>(elf: &Elf<'a>, places: usize) -> Option<&'a [u8]>
     requires few { places ≤ 3 * 2 ^ 30 }
@@ -100,7 +100,7 @@ fn next_entry(live: &Live<'_>, address: u32, bytes: &[u8], free: u64) -> Option<
     }
 }
 
-/// Where a run may start behind an entry, where it might from this address on before it.
+/// Where a run may start after an entry, where it might from this address on before it.
 fn behind(entry: &PlanEntry, free: u64) -> u64
     ensures value { result ≡ behind entry.now free }
 {

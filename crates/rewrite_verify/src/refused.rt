@@ -22,7 +22,7 @@ pub enum VerifyRefused {
     #[error("BadMap")]
     BadMap,
     /// The word at the address is another one, and none before it; or, at the first word's address,
-    /// the segments behind the original's aren't one of as many words.
+    /// the segments after the original's aren't one of as many words.
     #[error("BadCode")]
     BadCode(u32),
     /// The flags, the entry, a segment of the original's or the list of sections is another one.

@@ -14,7 +14,7 @@ use rewriter::poll_plan::closes_loop_at;
 use rv32_decode::{Instr, Reg, defs};
 use templates::{PlanEntry, Scratch, Scratches, Template, template_of};
 
-/// Whether an entry serves its place, in the code of which `live` was made.
+/// Whether an entry serves its place, in the code that `live` was made from.
 pub(crate) fn serves(live: &Live<'_>, entry: &PlanEntry) -> bool
     ensures value { IsTrue result ↔ Serves (code_of live.now) entry.now }
 {
@@ -48,7 +48,7 @@ fn has_single(live: &Live<'_>, entry: &PlanEntry) -> bool
     }
 }
 
-/// Whether these are so many scratch registers of the instruction at an address; 2 stands for more.
+/// Whether these are `count` scratch registers of the instruction at an address; 2 stands for more.
 fn has_so_many(live: &Live<'_>, address: u32, i: &Instr, count: u8, scratches: &Scratches) -> bool
     requires code_word { code_of live.now address ≡ Some i.now }
     ensures value { IsTrue result

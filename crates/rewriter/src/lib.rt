@@ -1,5 +1,8 @@
 #![tactic(auto)]
 //! Rewrites a program: the plan of its places, and the image of that plan.
+//!
+//! It hands on what a plan is made with, [`flow_graph`], [`liveness`], [`check_plan`],
+//! [`poll_plan`] and [`batch_plan`], and [`jump_map`], which holds the rewritten words.
 
 mod comparing;
 mod file;

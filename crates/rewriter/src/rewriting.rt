@@ -23,13 +23,13 @@ use std::marker::Model;
 use templates::{Code, Plan};
 
 /// How a program is rewritten.
-#[derive(Clone, Copy, Debug, PartialEq, Eq)]
+#[derive(Clone, Copy, PartialEq, Eq)]
 pub struct Options {
     /// Whether the accesses of a run are checked once.
     pub batch: bool,
 }
 
-/// A rewritten program: its image, and the plan of which that is the image.
+/// A rewritten program: its plan, and the image of that plan.
 #[derive(Drop)]
 pub struct Rewritten {
     image: Image,

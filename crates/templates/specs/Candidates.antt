@@ -4,7 +4,7 @@ use Rattle.std.specs.Prelude.{option_to_list}
 use Rattle.rv32_program.specs.Targets.{aligned_target}
 use Rattle.templates.specs.declared.code.CodeWord.{CodeWord}
 
--- the place of a code word, the one behind it, and the one where it jumps
+-- the place of a code word, the one after it, and the one where it jumps
 abbrev pub places_of : CodeWord → List ℕ
 places_of w = w.address ∷ (w.address + 4) ∷ option_to_list (aligned_target w.instruction w.address)
 

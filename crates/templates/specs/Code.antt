@@ -22,7 +22,7 @@ Ascends low [] = Unit {0}
 Ascends low (w ∷ ws) =
     (low ≤ w.address) × (w.address % 4 ≡ 0) × (w.address + 4 < 2 ^ 32) × Ascends (w.address + 4) ws
 
--- the address behind the last word
+-- the address after the last word
 abbrev pub end_from : ℕ → List CodeWord → ℕ
 end_from low [] = low
 end_from low (w ∷ ws) = end_from (w.address + 4) ws

@@ -17,7 +17,7 @@ join x y = record {
   stores = x.stores || y.stores;
 }
 
--- what instructions that begin with an access reach, with one more behind them
+-- what instructions that begin with an access reach, with one more after them
 abbrev pub Extends : Reach → Instr → Reach → Type 0
 Extends old i new =
     (is : List Instr) → IsTrue (has_access is 0) → old ≡ reach_of is → new ≡ reach_of (is ++ i ∷ [])

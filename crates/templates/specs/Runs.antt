@@ -69,7 +69,7 @@ reach_of instructions = reach_by (filter_map span_of instructions) (list_any is_
 
 -- 3. Runs
 
--- the instructions of so many code words, one behind another, from an address on
+-- the instructions of so many code words, one after another, from an address on
 abbrev pub code_from : (ℕ → Option Instr) → ℕ → ℕ → List Instr
 code_from code a zero = []
 code_from code a (suc n) = option_to_list (code a) ++ code_from code (a + 4) n

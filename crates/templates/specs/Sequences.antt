@@ -217,7 +217,7 @@ items_of e code = poll_first e.polls (place_items e.address e.single code)
 -- Batches: a run that starts at a place has a sequence before the place's single one, by which
 -- direct jumps go (Scales, Gharachorloo and Thekkath, ASPLOS 1996: the batching of miss checks).
 -- Its head tests the states of the two lines that the run reaches, its fast part has the run's own
--- words, and its fallback leads to the single sequence behind it.
+-- words, and its fallback leads to the single sequence after it.
 
 abbrev pub spills_of_run : Scratches → List SequenceItem → List SequenceItem
 spills_of_run x rest = spill 0 x.s (spill 1 x.t (spill 2 x.u rest))
@@ -231,7 +231,7 @@ abbrev pub mask_readable : Bool → ℕ → List SequenceItem → List SequenceI
 mask_readable true s rest = rest
 mask_readable false s rest = own (OpImm imm_op.And s s (pos 2)) rest
 
--- the check of a run: past it stands the fast part, and so many words behind that the fallback
+-- the check of a run: past it stands the fast part, and so many words after that the fallback
 abbrev pub head_items : Scratches → Reach → ℕ → List SequenceItem
 head_items x reach fast =
     spills_of_run x (state_look x reach.base reach.low
@@ -252,7 +252,7 @@ abbrev pub run_items : List Instr → List SequenceItem → List SequenceItem
 run_items [] rest = rest
 run_items (i ∷ is) rest = committing (Native i) (run_items is rest)
 
--- the run's words, and a jump to the head of the place behind the run
+-- the run's words, and a jump to the head of the place after the run
 abbrev pub fast_items : Scratches → List Instr → ℕ → List SequenceItem
 fast_items x instructions behind =
     reloads_of_run x (run_items instructions (to_head behind))
@@ -275,6 +275,6 @@ abbrev pub items_in : (ℕ → Option Instr) → PlanEntry → Part → List Seq
 items_in code e Single = items_of e (code e.address)
 items_in code e part = batch_items e.address e.batch (code_from code e.address e.run) part
 
--- the batch sequence of an entry: the words of its three parts, one behind another
+-- the batch sequence of an entry: the words of its three parts, one after another
 abbrev pub batch_sequence : (ℕ → Option Instr) → PlanEntry → List SequenceItem
 batch_sequence code e = items_in code e Head ++ (items_in code e Fast ++ items_in code e Fallback)

@@ -25,7 +25,7 @@ use rv32_decode::{Amount, Cond, Imm12, ImmOp, Instr, JumpOffset, LoadKind, Op, R
 use std::alloc::AllocError;
 
 /// How many words the parts of a batch have.
-#[derive(Clone, Copy, Debug, PartialEq, Eq)]
+#[derive(Clone, Copy, PartialEq, Eq)]
 pub struct BatchLengths {
     pub head: u8,
     pub fast: u8,
@@ -192,7 +192,7 @@ fn push_wait(
     push_native(sequence, jump_past(fast));
 }
 
-/// Appends the fast part of a batch: the run's words, and a jump to the place behind them.
+/// Appends the fast part of a batch: the run's words, and a jump to the place after them.
 fn push_fast(sequence: &mut BatchSequence, entry: &PlanEntry, code: &Code)
     requires room { array_vec_len sequence.old ≤ 19 }
     requires run { IsRun (code_of code.now) entry.now.address entry.now.run }
@@ -280,7 +280,7 @@ fn load_byte(register: Reg) -> Instr
     }
 }
 
-/// Jumps past so many words.
+/// Jumps past `words` words.
 fn jump_past(words: u8) -> Instr
     ensures value { result ≡ Instr.Jal 0 (pos (4 * (words + 1))) }
 {

@@ -10,7 +10,7 @@ use std::alloc::{AllocError, Global};
 use std::marker::Model;
 
 /// A code word: its address, and the instruction that stands there.
-#[derive(Clone, Copy, Debug, PartialEq, Eq)]
+#[derive(Clone, Copy, PartialEq, Eq)]
 pub struct CodeWord {
     pub address: u32,
     pub instruction: Instr,
@@ -44,7 +44,7 @@ impl Code {
         }
     }
 
-    /// Appends a code word, which stands behind the last one.
+    /// Appends a code word, which stands after the last one.
     pub fn push(&mut self, address: u32, instruction: Instr) -> Result<(), AllocError>
         requires behind { end_of self.old ≤ address }
         requires aligned { address % 4 ≡ 0 }
@@ -67,7 +67,7 @@ impl Code {
         &self.words
     }
 
-    /// The instruction so many words behind an address; None exactly where no code word stands
+    /// The instruction `words` words after an address; None exactly where no code word stands
     /// there.
     pub(crate) fn behind(&self, address: u32, words: u8) -> Option<Instr>
         ensures value { result ≡ code_of self.now (address + 4 * words) }
@@ -80,7 +80,7 @@ impl Code {
         }
     }
 
-    /// The address behind so many code words, one behind another.
+    /// The address after `words` code words, one after another.
     pub fn address_behind(&self, address: u32, words: u8) -> u32
         requires coded { length (code_from (code_of self.now) address words) ≡ words }
         ensures value { result ≡ address + 4 * words }

@@ -15,7 +15,7 @@ use crate::plans::{Plan, PlanEntry, Scratches, is_flag_checked};
 use rv32_decode::{Instr, LoadKind, Reg};
 
 /// When a word commits.
-#[derive(Clone, Copy, Debug, PartialEq, Eq)]
+#[derive(Clone, Copy, PartialEq, Eq)]
 pub enum CommitKind {
     Never,
     Always,
@@ -35,7 +35,7 @@ pub fn commit_at(plan: &Plan, code: &Code, place: Place) -> CommitKind
     }
 }
 
-/// The entry of which a place's word is one.
+/// The entry that a place's word belongs to.
 fn entry_of(entries: &[PlanEntry], place: Place) -> Option<&PlanEntry>
     ensures value { option_copied result ≡ find (is_word_of place) entries.now }
 {
@@ -78,7 +78,7 @@ fn commit_of_fast(entry: &PlanEntry, code: &Code, word: u8) -> CommitKind
     }
 }
 
-/// The number of code words among so many places, one behind another.
+/// The number of code words among `count` places, one after another.
 fn words_of_run(code: &Code, address: u32, count: u8) -> u8
     ensures value { result ≡ length (code_from (code_of code.now) address count) }
 {

@@ -74,7 +74,7 @@ fn branch_length(target: u32) -> u8
     if target % 4 == 0 { 2 } else { 1 }
 }
 
-/// How many registers of a run's check are spilled, and come back behind it.
+/// How many registers of a run's check are spilled, and come back after it.
 pub fn reload_count(scratches: &Scratches) -> u8
     ensures value { result ≡ length (reloads_of_run scratches.now []) }
     ensures small { result ≤ 3 }

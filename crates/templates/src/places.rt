@@ -12,13 +12,13 @@ use rv32_decode::Instr;
 use std::alloc::{AllocError, Global};
 
 /// A part of a place's sequences.
-#[derive(Clone, Copy, Debug, PartialEq, Eq)]
+#[derive(Clone, Copy, PartialEq, Eq)]
 pub enum Part {
     /// The sequence of the place by itself.
     Single,
     /// The check of a run of accesses that starts at the place.
     Head,
-    /// The run's own words behind one check.
+    /// The run's own words after one check.
     Fast,
     /// The way from the check to the single sequences.
     Fallback,
@@ -27,7 +27,7 @@ pub enum Part {
 /// Where a rewritten word stands: its place, the part there, and its number in the part, from 0. In
 /// the fast part of a run each of the run's own words has its own address; every other word of a
 /// batch has that of the run's first place.
-#[derive(Clone, Copy, Debug, PartialEq, Eq)]
+#[derive(Clone, Copy, PartialEq, Eq)]
 pub struct Place {
     pub address: u32,
     pub part: Part,
@@ -59,7 +59,7 @@ fn candidates(alloc: Global, words: &[CodeWord]) -> Result<Vec<u32>, AllocError>
     Ok(places)
 }
 
-/// Appends the place of a code word, the one behind it, and the one where it jumps.
+/// Appends the place of a code word, the one after it, and the one where it jumps.
 fn push_places(word: &CodeWord, places: &mut Vec<u32>) -> Result<(), AllocError>
     requires { word.now.address + 4 < 2 ^ 32 }
     ensures { OnOk result (places.new.items ≡ places.old.items ++ places_of word.now) }

@@ -10,7 +10,7 @@ use std::alloc::{AllocError, Global};
 use std::marker::Model;
 
 /// The templates of places.
-#[derive(Clone, Copy, Debug, PartialEq, Eq)]
+#[derive(Clone, Copy, PartialEq, Eq)]
 pub enum Template {
     /// The original word.
     Plain,
@@ -43,7 +43,7 @@ pub enum Template {
 }
 
 /// A scratch register; x0, not spilled, where none is used.
-#[derive(Clone, Copy, Debug, PartialEq, Eq)]
+#[derive(Clone, Copy, PartialEq, Eq)]
 pub struct Scratch {
     pub register: Reg,
     /// Its value is kept in a spill word meanwhile.
@@ -51,7 +51,7 @@ pub struct Scratch {
 }
 
 /// The scratch registers of a sequence.
-#[derive(Clone, Copy, Debug, PartialEq, Eq)]
+#[derive(Clone, Copy, PartialEq, Eq)]
 pub struct Scratches {
     pub s: Scratch,
     pub t: Scratch,
@@ -59,7 +59,7 @@ pub struct Scratches {
 }
 
 /// What a plan says of one place.
-#[derive(Clone, Copy, Debug, PartialEq, Eq)]
+#[derive(Clone, Copy, PartialEq, Eq)]
 pub struct PlanEntry {
     pub address: u32,
     pub template: Template,

@@ -8,7 +8,7 @@ use rv32_decode::{Imm12, Instr, Reg, Width};
 
 /// What instructions reach that access memory by one register: the offsets of the least byte and of
 /// the greatest, and whether they store.
-#[derive(Clone, Copy, Debug, PartialEq, Eq)]
+#[derive(Clone, Copy, PartialEq, Eq)]
 pub struct Reach {
     pub base: Reg,
     pub low: Imm12,
@@ -63,7 +63,7 @@ impl Reach {
         }
     }
 
-    /// What instructions that begin with an access reach, with one more behind them.
+    /// What instructions that begin with an access reach, with one more after them.
     pub fn with(self, i: &Instr) -> Reach
         ensures value { Extends self i.now result }
     {

@@ -175,7 +175,7 @@ fn push_flag_load(sequence: &mut Sequence, scratches: &Scratches, rd: Reg, rs1: 
     push_reload(sequence, 0, scratches.s);
 }
 
-/// Appends an instruction that reads, behind a test of its line's state.
+/// Appends an instruction that reads, after a test of its line's state.
 fn push_read(
     sequence: &mut Sequence,
     scratches: &Scratches,
@@ -228,7 +228,7 @@ fn push_store(
     push_write(sequence, scratches, width, rs1, imm, store);
 }
 
-/// Appends an instruction that writes, behind a test of its line's state.
+/// Appends an instruction that writes, after a test of its line's state.
 fn push_write(
     sequence: &mut Sequence,
     scratches: &Scratches,
@@ -470,7 +470,7 @@ fn load_word(rd: Reg, rs1: Reg, imm: Imm12) -> Instr
     }
 }
 
-/// Branches so many bytes on.
+/// Branches `offset` bytes on.
 pub(crate) fn branch_by(cond: Cond, rs1: Reg, rs2: Reg, offset: u8) -> Instr
     requires even { offset % 2 ≡ 0 }
     ensures { result ≡ Instr.Branch cond rs1 rs2 (pos offset) }

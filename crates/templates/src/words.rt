@@ -6,7 +6,7 @@ use std::alloc::{AllocError, Global};
 use std::marker::Model;
 
 /// A word of a sequence.
-#[derive(Clone, Copy, Debug, PartialEq, Eq)]
+#[derive(Clone, Copy, PartialEq, Eq)]
 pub enum Item {
     /// A word as it stands in the image.
     Fixed(u32),
@@ -22,7 +22,7 @@ impl Default for Item {
     }
 }
 
-/// The words of sequences, one behind another. Contracts see their list.
+/// The words of sequences, one after another. Contracts see their list.
 #[derive(Drop)]
 pub struct Words {
     items: Vec<Item>,

@@ -10,7 +10,7 @@ use std::test::Fail;
 pub const NODE: &str =
     "node 0 read 0 exclusive 0 upgrade 0 false 0 invalidations 0 fallbacks 0 messages 0\n";
 
-/// Files with these names and contents, of which the calls with these numbers fail.
+/// Files with these names and contents; the calls with these numbers fail.
 fn files_of(alloc: Global, all: &[(&str, &[u8])], fails: &[u64]) -> Result<MemFiles, Fail> {
     let mut held = Vec::new(alloc);
     for (name, bytes) in all {
@@ -56,7 +56,7 @@ pub struct Called {
     pub written: Vec<u8>,
 }
 
-/// A sink of which the puts with these numbers fail, or are refused memory.
+/// A sink whose puts with these numbers fail, or are refused memory.
 fn sink_of(alloc: Global, fails: &[u64], refusals: &[u64]) -> Result<MemSink, AllocError> {
     let fails = fails.to_vec(alloc)?;
     Ok(MemSink::with_refusals(alloc, fails, refusals.to_vec(alloc)?))
@@ -148,7 +148,7 @@ impl Called {
     }
 }
 
-/// Files of which no call fails.
+/// Files whose calls never fail.
 pub fn sure<'a>(files: &'a [(&'a str, &'a [u8])]) -> Held<'a> {
     Held {
         files,

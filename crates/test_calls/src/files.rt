@@ -28,8 +28,8 @@ pub fn push_sizes(bytes: &mut Vec<u8>, in_file: usize, in_memory: u32) -> Result
     Ok(())
 }
 
-/// Appends the words of an assembly text, the first of which stands at 0x10000. A semicolon ends a
-/// line, as a line feed does.
+/// Appends the words of an assembly text. The first stands at 0x10000. A semicolon ends a line, as
+/// a line feed does.
 pub fn push_code(alloc: Global, bytes: &mut Vec<u8>, text: &str) -> Result<(), Fail> {
     let lines = text.replace(alloc, ";", "\n")?;
     let text = text_of(alloc, &[".segment rx 0x10000\n", &lines])?;
@@ -41,8 +41,8 @@ pub fn push_code(alloc: Global, bytes: &mut Vec<u8>, text: &str) -> Result<(), F
     Ok(())
 }
 
-/// The executable of this code and data, of which the data's memory has so many bytes. The code is
-/// an assembly text.
+/// The executable of this code and data. The data's memory has `data_size` bytes. The code is an
+/// assembly text.
 pub fn executable(alloc: Global, code: &str, data: &[u8], data_size: u32) -> Result<Vec<u8>, Fail> {
     let mut words = Vec::new(alloc);
     push_code(alloc, &mut words, code)?;

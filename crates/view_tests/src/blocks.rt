@@ -44,7 +44,7 @@ const SYMBOLS: &str = "00000000 00000000 00000000 00000000
     0000000b 00010008 00000004 00010011";
 
 /// Its section headers: an empty one, that of the code, that of the symbols, which stand at 0x2004
-/// of the file, and two of the names behind them: for the symbols and for the sections.
+/// of the file, and two of the names after them: for the symbols and for the sections.
 const SECTIONS: &str = "00000000 00000000 00000000 00000000 00000000 00000000 00000000 00000000
     00000000 00000000
     0000000f 00000001 00000006 00010000 00001000 00000018 00000000 00000000 00000004 00000000
@@ -52,8 +52,8 @@ const SECTIONS: &str = "00000000 00000000 00000000 00000000 00000000 00000000 00
     0000001d 00000003 00000000 00000000 00002044 0000002c 00000000 00000000 00000001 00000000
     00000025 00000003 00000000 00000000 00002044 0000002c 00000000 00000000 00000001 00000000";
 
-/// Where the file header says them: from 0x2070 on, five of forty bytes, of which the last has the
-/// names of the sections.
+/// Where the file header says them: from 0x2070 on, five of forty bytes; the last has the names of
+/// the sections.
 static HEADER: [(usize, u8); 5] = [(32, 0x70), (33, 0x20), (46, 40), (48, 5), (50, 4)];
 
 /// The executable of the program, with these symbols.

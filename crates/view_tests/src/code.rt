@@ -23,7 +23,7 @@ c: * commits a step, ? unless the value is the flag, ~ unless it waits, . doesn'
   a0000000: 0000102b no place          . trap.off
 ";
 
-/// Each instruction stands for itself but for the system calls; behind the code a word stops.
+/// Each instruction stands for itself but for the system calls; after the code a word stops.
 const HI_CODE: &str = "00010000: 000205b7 lui x11, 0x20                  ; as it is
   a0000004: 000205b7 00010000 single   * lui x11, 0x20
 00010004: 00100513 addi x10, x0, 1                ; as it is

@@ -13,7 +13,7 @@ const HEAD_OF_CHECKS: &str = "  instrs   words per 100     own    flag   state  
 const HEAD_OF_OTHERS: &str = "   batch    poll    jump   spill  function\n";
 
 /// Of the eight instructions each has one word, which is its own. Word 0, where a processor goes
-/// whose pc is no place, and the word behind the code have no instruction. So there are 10 words,
+/// whose pc is no place, and the word after the code have no instruction. So there are 10 words,
 /// which is 125 for 100 instructions. The program names no function.
 const HI_COSTS: [&str; 6] = [
     HEAD_OF_CHECKS,
@@ -28,8 +28,8 @@ const HI_COSTS: [&str; 6] = [
 const PAIR: &str = "lui x5, 0x20; lw x6, 0(x5); lw x7, 4(x5); addi x10, x0, 0; addi x17, x0, 93;
     ecall";
 
-/// Each load has seven words without batches: five check its value, and two stand for itself, of
-/// which one commits. With lui, addi, addi and ecall that is 18, and with the two words that have
+/// Each load has seven words without batches: five check its value, and two stand for itself; one
+/// of the two commits. With lui, addi, addi and ecall that is 18, and with the two words that have
 /// no instruction 20.
 const APART: [&str; 6] = [
     HEAD_OF_CHECKS,
@@ -82,14 +82,14 @@ static NAMED_CALLS: [Row; 1] = [("cost IN", 0, &NAMED, "")];
 /// Of a run, the steps of the original stand in the first column.
 const HEAD_OF_RUN: &str = "   steps   words per 100     own    flag   state   store";
 
-/// Of the run of `trace` by two nodes, whose stamps count the words of a node, but for the
-/// messages that it takes. Node 0 executes six words: lui, the branch, the word that leads away
-/// from it, addi, addi and ecall; of these all but the one that leads away commit a step. Node 1
-/// doesn't branch away: it executes lui, the branch, the seven words of the load, of which the
-/// last commits, addi, addi and ecall. So `read`, which has the branch and the load, has 2 words
-/// of node 0 and 8 of node 1, of which 4 are the original's own, 5 check the load and one leads
-/// away, for 1 and 2 steps. `main` has 4 words and 4 steps of each. In all these are 18 words for
-/// 11 steps: node 0's journal tells of 6 words, and node 1's of 8 and 4.
+/// Of the run of `trace` by two nodes, whose stamps count the words of a node, but for the messages
+/// that it takes. Node 0 executes six words: lui, the branch, the word that leads away from it,
+/// addi, addi and ecall; all of them but the one that leads away commit a step. Node 1 doesn't
+/// branch away: it executes lui, the branch, the seven words of the load, whose last commits, addi,
+/// addi and ecall. So `read`, which has the branch and the load, has 2 words of node 0 and 8 of
+/// node 1, for 1 and 2 steps: 4 are the original's own, 5 check the load and one leads away. `main`
+/// has 4 words and 4 steps of each. In all these are 18 words for 11 steps: node 0's journal tells
+/// of 6 words, and node 1's of 8 and 4.
 const RUN: [&str; 9] = [
     HEAD_OF_RUN,
     HEAD_OF_OTHERS,

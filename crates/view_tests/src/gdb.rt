@@ -7,7 +7,7 @@ use std::test::Fail;
 use test_calls::calls::{Expected, Held, sure};
 use test_calls::files::executable;
 
-/// Why a run of which nothing was asked yet has stopped.
+/// Why a run has stopped before anything was asked of it.
 const FIRST: &str = "+$T05thread:00000001;#27";
 
 /// Its last step is one of the second processor.
@@ -39,16 +39,19 @@ const MISS: &str =
     3030303230303030206f6620626c6f636b203020746f20726561642c20776869636820697320696e7661\
     6c69643b2073656e64732052656164206f6620626c6f636b203020746f20300a#bc";
 
-/// Behind it the first processor has ended: of its thread it is told `exited`.
+/// After it the first processor has ended: of its thread it is told `exited`.
 const EXITED: &str = "+$657869746564#89";
 
 /// The second waits there: `waits for block 0`.
 const WAITING: &str = "+$776169747320666f7220626c6f636b2030#b1";
 
-/// At the beginning it runs: `stopped`.
-const STOPPED: &str = "+$73746f70706564#14";
+/// At the beginning it `runs`.
+const RUNS: &str = "+$72756e73#da";
 
-/// Of `where` behind it: five steps of processor 0 and two of processor 1 come before.
+/// After the miss the run stands at the second processor.
+const AT_MISS: &str = "+$T05thread:00000002;#28";
+
+/// Of `where` after it: five steps of processor 0 and two of processor 1 come before.
 const BEHIND: &str =
     "+$61667465722037206f66203131207069636b732c20746865206c617374206f662070726f636573736f\
     7220300a746865206e6f6465732061726520626568696e6420746865206576656e74206f66206e6f6465\
@@ -93,7 +96,7 @@ type Session = (
 );
 
 /// B is the record with one entry changed, whose message isn't there yet.
-static SESSIONS: [Session; 17] = [
+static SESSIONS: [Session; 18] = [
     ("gdb IN R", "", &[], 0, &[], ""),
     ("gdb IN R", "$?#3f", &[], 0, &[FIRST], ""),
     ("gdb IN R", "$?#3f+$D#44$?#3f", &[], 0, &[FIRST, OK], ""),
@@ -159,7 +162,7 @@ static SESSIONS: [Session; 17] = [
         &[],
         "shasta: code refused 50 NoPlan\n",
     ),
-    // the nodes are shown by commands, up to the miss and behind it
+    // the nodes are shown by commands, up to the miss and after it
     (
         "gdb IN R",
         "$qRcmd,7768657265#3e$qRcmd,6d697373#00$qRcmd,7768657265#3e$qRcmd,6e6f6465203\
@@ -178,14 +181,24 @@ static SESSIONS: [Session; 17] = [
         &[MISS, NO_MISS, AT_END, UNWRITTEN, AT_START],
         "",
     ),
-    // what threads do, of which there are two: at the beginning, behind the miss, and at the end
+    // where the run stands after a miss, where none comes, and before the last write
+    (
+        "gdb IN R",
+        "$?#3f$qRcmd,6d697373#00$?#3f$qRcmd,6d697373#00$?#3f$qRcmd,6261636b2d746\
+            f2d77726974652030783230303030#67$?#3f",
+        &[],
+        0,
+        &[FIRST, MISS, AT_MISS, NO_MISS, END, UNWRITTEN, BEGINNING],
+        "",
+    ),
+    // what threads do, of which there are two: at the beginning, after the miss, and at the end
     (
         "gdb IN R",
         "$qThreadExtraInfo,2#b7$qRcmd,6d697373#00$qThreadExtraInfo,1#b6$qThreadExtraInfo,2#b7\
             $qThreadExtraInfo,3#b8$c#63$qThreadExtraInfo,2#b7",
         &[],
         0,
-        &[STOPPED, MISS, EXITED, WAITING, "+$E01#a6", END, EXITED],
+        &[RUNS, MISS, EXITED, WAITING, "+$E01#a6", END, EXITED],
         "",
     ),
     ("gdb IN R --node 1", "$?#3f", &[1], 2, &[], USAGE),

@@ -7,7 +7,7 @@ use std::test::Fail;
 use test_calls::calls::words_of;
 
 /// What of the trace of the record `r` of a run of `a` a line asks for, if it asks for one: from
-/// which stamp, to which, of the block of which address, and of which node.
+/// what stamp, to what stamp, of the block of what address, and of what node.
 type Asked = Option<(Option<u64>, Option<u64>, Option<u32>, Option<u8>)>;
 
 static LINES: [(&str, Asked); 14] = [
@@ -126,15 +126,15 @@ fn run_of(alloc: Global, words: &[Text]) -> Result<Run, AllocError> {
 fn time_of(view: &View<'_>) -> Run {
     match view {
         View::Time(asked) if asked.file == "a" => Some((
-            asked.nodes.number(),
+            asked.nodes.as_u8(),
             asked.budget.number(),
             known(asked.verified),
             known(asked.layout),
             asked.no_batch,
             [
-                asked.latency.number(),
-                asked.line.number(),
-                asked.handling.number(),
+                asked.latency.as_u32(),
+                asked.line.as_u32(),
+                asked.handling.as_u32(),
             ],
         )),
         _ => None,

@@ -7,8 +7,7 @@ use std::str::from_utf8;
 use std::test::Fail;
 use test_calls::files::executable;
 
-/// A call that writes a page, and what the page says of its events, of which `trace` has a line
-/// each.
+/// A call that writes a page, and what the page says of its events; `trace` has a line for each.
 static WRITTEN: [(&str, &str); 4] = [
     ("page IN R OUT", "13 events, with stamps from 5 to 16."),
     (

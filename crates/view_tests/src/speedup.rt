@@ -37,6 +37,15 @@ static STOPPED: (&str, [&str; 2]) = (
     ],
 );
 
+/// A page of runs that end by a trap: X stores into a line of the program.
+static TRAPPED: (&str, [&str; 2]) = (
+    "speedup X OUT --nodes=1",
+    [
+        "On one processor the original ends by a trap: access.",
+        "<td>access</td>",
+    ],
+);
+
 /// Calls that write none; L names node 1 as a home, which one node hasn't.
 static UNWRITTEN: [Row; 6] = [
     ("speedup IN", 2, &[], USAGE),
@@ -78,13 +87,16 @@ fn try_page(
 fn writes_speedups_or_leaves_the_file(rt: HostRuntime) -> Result<(), Fail> {
     let alloc = rt.alloc();
     let program = executable(alloc, ROW, &[7, 0, 0, 0], 64)?;
+    let faulty = executable(alloc, "lui x5, 0x10; sw x5, 0(x5)", &[], 64)?;
     let files = [
         ("IN", program.as_slice()),
+        ("X", faulty.as_slice()),
         ("T", b"text"),
         ("L", b"0x20000 0x40 64 1\n"),
         ("OUT", BEFORE.as_bytes()),
     ];
     try_page(alloc, &files, SHOWN.0, &SHOWN.1)?;
     try_page(alloc, &files, STOPPED.0, &STOPPED.1)?;
+    try_page(alloc, &files, TRAPPED.0, &TRAPPED.1)?;
     try_unwritten(alloc, &files, &UNWRITTEN)
 }

@@ -24,7 +24,7 @@ use test_calls::files::executable;
 ///
 /// Of the original node 0 makes five steps: lui, beq, for which bne and jal stand, addi, addi and
 /// ecall. Node 1 makes six: lui, beq, lw, addi, addi and ecall. Its other six words are those of
-/// the check of lw: the first lw reads the flag word, so the second one commits, behind miss.r.
+/// the check of lw: the first lw reads the flag word, so the second one commits, after miss.r.
 ///
 /// Node 0 takes the Done at 378, to 398, and then the Bye, to 418. So node 0 took five messages and
 /// was idle from 26 to 108 and from 148 to 378, which is 312; node 1 took three, and is idle from
