@@ -1,6 +1,6 @@
 """The specification as a book: definitions in an order in which nothing is used before it stands,
 in chapters. For .ci/reached."""
-import re, textwrap
+import re, sys, textwrap
 
 from definitions import NAME, ghost
 
@@ -20,7 +20,12 @@ CHAPTERS = (
      ("rv32_program", "elf32_read", "byte_range", "block_layout.Layout", "exec_map")),
     ("One memory and its steps",
      "The processors of a program share one memory. A step is one instruction of one processor, or "
-     "one byte of a write call. Between steps a reservation may break, as the manual lets it.",
+     "one byte of a write call. Between steps a reservation may be lost, as the manual lets it. "
+     "Four layers lead to a run: what an instruction demands of its processor and of memory "
+     "(`demand_of`); what one memory gives for a demand (`step`); the steps and lost reservations "
+     "in an order, which are called picks (`Pick`); and what an order of picks leads to (`run`, "
+     "`IsRun`). Whoever wants the run first may begin with the last two, under 'Runs of the "
+     "original'.",
      ("rv32_decode.Registers", "llsc", "rv32_step", "one_memory")),
     ("What is printed",
      "A text has the bytes that the processors printed, and a line for each processor.",
@@ -28,17 +33,64 @@ CHAPTERS = (
       "prepared_run.Text", "prepared_run.Processors", "prepared_run.Outcomes")),
     ("What words ask for",
      "The words of a command line ask for a command, and a command reads files.",
-     ("command_line", "judged_files", "prepared_run", "commands", "block_layout.Text")),
+     ("command_line", "judged_files", "prepared_run", "commands", "block_layout.Text",
+      "run_limits", "run_record")),
     ("The clause",
      "What the text of a command says of the original program.",
      ("judged_files.Executables", "judged_files.Layouts", "prepared_run.Interleaved",
       "commands.Interleaved")),
 )
+# Of each module what is shown there, as its heading.
+HEADINGS = {
+    "rv32_decode.Fields": "Bits of a word, and immediates",
+    "rv32_decode.Rows": "The table of instructions",
+    "rv32_decode.Widths": "How many bytes an access has",
+    "rv32_decode.Registers": "Which registers an instruction reads and writes",
+    "rv32_ops.Operations": "What operations compute",
+    "run_limits.Ranges": "Budgets",
+    "run_record.Telling": "The ranges of a record",
+    "run_record.Text": "The lines with which a record begins",
+    "rv32_program.Program": "Programs",
+    "rv32_program.Targets": "Where jumps lead",
+    "block_layout.Layout": "Blocks and homes",
+    "block_layout.Text": "The text of a layout",
+    "byte_range.Memory": "Bytes of a memory",
+    "elf32_read.Elf": "What an ELF file holds",
+    "elf32_read.Fields": "The fields of an ELF file",
+    "elf32_read.Reading": "Reading an ELF file",
+    "elf32_read.Refusals": "Which files are refused",
+    "exec_map.Contents": "The program of an executable",
+    "exec_map.Refusals": "Which executables are refused",
+    "llsc.Reservation": "Reservations",
+    "rv32_step.Registers": "The registers at the start",
+    "rv32_step.Demands": "What an instruction demands",
+    "rv32_step.Memory": "Loads and stores",
+    "rv32_step.Reservations": "What a store does to reservations",
+    "rv32_step.Breaks": "When a reservation may be lost",
+    "rv32_step.OneMemory": "Runs of the original",
+    "rewriting_law.Bounds": "The steps of a processor",
+    "one_memory.ByOrder": "How processors end",
+    "rv32_text.Listing": "Digits of a word",
+    "dsm_io.Causes": "What a sink gets",
+    "dsm_io.States": "What contracts see of files and sinks",
+    "text_output.Text": "Addresses in texts",
+    "prepared_run.Text": "The lines of the nodes",
+    "prepared_run.Processors": "The lines of the processors",
+    "prepared_run.Outcomes": "The end of a text",
+    "command_line.Tasks": "Commands and their options",
+    "command_line.Asks": "What words ask for",
+    "judged_files.Executables": "The executable in a file",
+    "prepared_run.Interleaved": "A text that tells of the original",
+    "commands.Interleaved": "What is printed of the original",
+}
 CLAUSE_SAYS = (
-    "From the contract of `shasta`, in [src/top.rt](../crates/commands/src/top.rt). `words` are "
-    "the words of the command line, `files` and `out` what the call reads from and prints to, "
-    "before it (`.old`) and behind it (`.new`); `F.state` and `O.state` are what contracts see of "
-    "these two, and `result` is the status.")
+    "**The clause**, from the contract of `shasta` in [src/top.rt](../crates/commands/src/top.rt). "
+    "`words` are the words of the command line, `files` and `out` what the call reads from and "
+    "prints to, before it (`.old`) and after it (`.new`); `F.state` and `O.state` are what "
+    "contracts see of these two, and `result` is the status:")
+# The names of the clause, and those of PrintsOriginal: they stand on the first page, with links.
+FIRST_NAMES = ("AsksToRun", "AreFilesTold", "PrintsOriginal", "IsTextOfOriginal", "TellsOfOriginal",
+               "IsInterleaved", "IsRun")
 WIDTH = 100
 
 
@@ -75,7 +127,7 @@ def laid_out(lines):
             if not comment:
                 short.append(text)
                 continue
-            inner += [*packed(short, 4), *(f"    {line}" for line in [*comment, text])]
+            inner += [*packed(short, 4), *(f"    {line}" for line in with_comment(comment, text))]
             short = []
         return [head, *inner[:-2], "}"]
     text = " ".join(text for _, text in entries)
@@ -84,6 +136,14 @@ def laid_out(lines):
         return [whole]
     inner = textwrap.wrap(text.replace("{ ", "{~").replace(" }", "~}"), WIDTH - 4)
     return [head, *("    " + line.replace("~", " ") for line in inner), "}"]
+
+
+def with_comment(comment, text):
+    """A field or variant with its comment: after it where it has room there, else before it."""
+    line = f"{text}  // {comment[0].removeprefix('/// ').removesuffix('.')}"
+    if len(comment) == 1 and text and len(line) <= WIDTH - 4:
+        return [line]
+    return [*comment, text]
 
 
 def packed(entries, indent):
@@ -244,8 +304,24 @@ class Book:
         return {token.split(".")[0] for uses in self.uses.values() for token, found in uses
                 if found == "std" and re.fullmatch(NAME, token.split(".")[0])}
 
-    def lines(self, clause):
-        """The text of the book, ended by the clause."""
+    def front(self, clause):
+        """The clause, and what it promises, with links to what stands below."""
+        promise = self.only("PrintsOriginal")
+        links = [f"[`{name}`](#{self.anchor(self.only(name))})" for name in FIRST_NAMES]
+        return ["", *wrapped(CLAUSE_SAYS), "", "```", *clause, "", *promise.comment,
+                *self.shown(promise), "```", "", *wrapped(f"Below stand {listed(links)}."), ""]
+
+    def only(self, name):
+        """The one thing of a name."""
+        return next(found for found in self.places.values() if found.name == name)
+
+    def anchor(self, found):
+        """The link to the heading under which something stands."""
+        heading = HEADINGS[f"{found.crate}.{found.module}"]
+        return re.sub(r"[^a-z -]", "", heading.lower()).replace(" ", "-")
+
+    def lines(self):
+        """The text of the book."""
         lines, chapter = [], None
         for (number, crate, file), places in self.sections():
             if number != chapter:
@@ -253,8 +329,7 @@ class Book:
                 lines += [f"## {number + 1}. {title}", "", *wrapped(says), ""]
                 chapter = number
             lines += self.section(crate, file, places)
-        return [*lines, "### The clause as it stands", "", *wrapped(CLAUSE_SAYS), "",
-                "```", *clause, "```"]
+        return lines[:-1]
 
     def length(self):
         """How many lines the book has without comments."""
@@ -263,31 +338,65 @@ class Book:
 
     def section(self, crate, file, places):
         module = self.places[places[-1]].module
-        title = re.sub(r"(?<=[a-z])(?=[A-Z])", " ", module) or "types"
+        plain = re.sub(r"(?<=[a-z])(?=[A-Z])", " ", module) or "types"
+        title = HEADINGS.get(f"{crate}.{module}", f"{crate}: {plain}")
         says = self.sources.specs[crate, module].says if file.startswith("specs/") else []
         link = f"[{crate}/{file}](../crates/{crate}/{file})"
-        lines = [f"### {crate}: {title}", "", *wrapped(" ".join([*says, link])), ""]
-        notes = self.notes(crate, module, places)
-        if notes:
-            lines += [*wrapped(f"Names here: {'; '.join(notes)}."), ""]
+        notes = [*self.notes(crate, module, places), *self.twice(places)]
+        named = [f"Names here: {'; '.join(notes)}."] if notes else []
+        lines = [f"### {title}", "", *wrapped(" ".join([*says, link, *named])), ""]
         return [*lines, *self.code(places)]
 
+    def twice(self, places):
+        """What stands here under a name that something else in the book has, too."""
+        for place in places:
+            found = self.places[place]
+            for other in sorted(self.named.get(found.name, set()) - {place}):
+                there = self.places[other]
+                if there.name == found.name and not there.is_of_code:
+                    heading = HEADINGS.get(f"{there.crate}.{there.module}", there.crate)
+                    yield f"another `{found.name}` stands under '{heading}'"
+
     def code(self, places):
-        """The texts in blocks: those of specs/, and those of the code."""
-        lines, within = [], ""
+        """The texts in a block: those of specs/, and those of the code."""
+        lines, within = ["```"], ""
         for before, place in zip([None, *places], places):
             found = self.places[place]
-            if before is None or self.places[before].is_of_code != found.is_of_code:
-                lines += ["```", ""] if before else []
-                lines.append("```rust" if found.is_of_code else "```")
-            else:
+            try:
+                one_line, shown = self.in_one_line(found), self.shown(found)
+            except Exception as error:
+                sys.exit(f"reached: {found.crate} {found.file}: {found.name} can't be laid out: "
+                         f"{error!r}")
+            if before is not None and not self.goes_on(before, place):
                 lines.append("")
+            if one_line:
+                lines.append(one_line)
+                continue
             if found.within and found.within != within:
                 lines += [found.within, ""]
             within = found.within
             indent = "  " if within else ""
-            lines += [indent + line for line in [*found.comment, *self.shown(found)]]
+            lines += [indent + line for line in [*found.comment, *shown]]
         return [*lines, "```", ""]
+
+    def in_one_line(self, found):
+        """A type of the code with its comment in one line, where it has room there; else None."""
+        shown = self.shown(found)
+        if not found.is_of_code or found.within or len(shown) != 1 or len(found.comment) != 1:
+            return None
+        head, _, seen = shown[0].partition("  // ")
+        says = found.comment[0].removeprefix("/// ").removesuffix(".")
+        line = f"{head}  // {'; '.join(filter(None, [says, seen]))}"
+        return line if len(line) <= WIDTH else None
+
+    def goes_on(self, before, place):
+        """Whether a definition follows on the one before without an empty line: both are types in a
+        line; or both are short, and it has no comment of its own."""
+        both = one, other = self.places[before], self.places[place]
+        if all(self.in_one_line(found) for found in both):
+            return True
+        return not other.comment and all(
+            not it.is_of_code and not it.within and len(self.shown(it)) <= 5 for it in both)
 
     def shown(self, found):
         """A definition's lines; of a type with a model what contracts see of it."""
