@@ -1,5 +1,5 @@
-/* shasta.h: work for all processors, a lock, a barrier and an addition. */
-#include "shasta.h"
+/* shasta_short.h: work for all processors, a lock, a barrier and an addition. */
+#include "shasta_short.h"
 
 #include <stdio.h>
 

@@ -1,6 +1,6 @@
 /* Each processor ends where `parallel` has brought it to its function, so a run has only the
    messages by which all begin. */
-#include "shasta.h"
+#include "shasta_short.h"
 
 static void end_here(void *unused)
 {

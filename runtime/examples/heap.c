@@ -6,7 +6,7 @@
 #include <stdlib.h>
 #include <string.h>
 
-#include "shasta.h"
+#include "shasta_short.h"
 
 enum { BLOCKS = 200 };
 

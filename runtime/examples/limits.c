@@ -1,12 +1,11 @@
-/* What a program is told where there is no more: of memory for malloc, and of processors for
-   threads. */
+/* What a program is told where there is no more memory: for malloc, and for threads. */
 #include <errno.h>
 #include <stdio.h>
 #include <stdlib.h>
 #include <string.h>
 #include <threads.h>
 
-enum { MOST = 16 };
+enum { MOST = 100 };
 
 static int nothing(void *unused)
 {
@@ -25,7 +24,7 @@ int main(void)
     int result = thrd_success;
     while ((result = thrd_create(&threads[made], nothing, 0)) == thrd_success)
         made += 1;
-    printf("after %u threads: %s\n", made, result == thrd_error ? "thrd_error" : "another error");
+    printf("after %u threads: %s\n", made, result == thrd_nomem ? "thrd_nomem" : "another error");
     for (unsigned k = 0; k < made; k += 1)
         thrd_join(threads[k], 0);
     printf("after a join: %s\n",

@@ -1,6 +1,6 @@
 /* A lock that is free is taken by one processor after the other, each time of another node than
    before; then once more by the last, whose node still has it. */
-#include "shasta.h"
+#include "shasta_short.h"
 
 static const unsigned takers[] = {2, 1, 3, 3};
 

@@ -1,4 +1,4 @@
-/* <threads.h>: as many threads as there are processors that wait; a mutex, a condition, what is
+/* <threads.h>: more threads than there are processors; a mutex, a condition, what is
    done once, and what each thread keeps for itself. It prints the same for each number of
    processors. */
 #include <errno.h>
@@ -7,7 +7,7 @@
 #include <stdlib.h>
 #include <threads.h>
 
-enum { JOBS = 12, MOST = 16 };
+enum { JOBS = 12, THREADS = 20 };
 
 static mtx_t mutex;
 static cnd_t changed;
@@ -55,19 +55,16 @@ static int work(void *unused)
     }
 }
 
-/* Makes as many threads as there are processors for; gives how many. */
-static unsigned make_threads(thrd_t *threads)
+static void make_threads(thrd_t *threads)
 {
-    unsigned made = 0;
-    while (thrd_create(&threads[made], work, 0) == thrd_success)
-        made += 1;
-    return made;
+    for (unsigned k = 0; k < THREADS; k += 1)
+        thrd_create(&threads[k], work, 0);
 }
 
-static unsigned join_all(const thrd_t *threads, unsigned made)
+static unsigned join_all(const thrd_t *threads)
 {
     unsigned jobs = 0;
-    for (unsigned k = 0; k < made; k += 1) {
+    for (unsigned k = 0; k < THREADS; k += 1) {
         int result;
         thrd_join(threads[k], &result);
         jobs += (unsigned)result;
@@ -77,24 +74,19 @@ static unsigned join_all(const thrd_t *threads, unsigned made)
 
 int main(void)
 {
-    thrd_t threads[MOST];
+    thrd_t threads[THREADS];
     mtx_init(&mutex, mtx_plain | mtx_recursive);
     tss_create(&key, at_end);
-    unsigned made = make_threads(threads);
-    if (made == 0) {
-        for (; next_job < JOBS; next_job += 1, done_jobs += 1)
-            do_job(next_job);
-        call_once(&once, begin);
-    }
+    make_threads(threads);
     mtx_lock(&mutex);
     while (done_jobs < JOBS)
         cnd_wait(&changed, &mutex);
     mtx_unlock(&mutex);
-    unsigned jobs = join_all(threads, made) + jobs_here;
-    unsigned again = make_threads(threads);
-    jobs += join_all(threads, again);
+    unsigned jobs = join_all(threads);
+    make_threads(threads);
+    jobs += join_all(threads);
     printf("jobs %u, of threads %u\n", done_jobs, jobs);
-    printf("once %u, ends missing %u\n", calls, made + again - ended);
+    printf("once %u, ends missing %u\n", calls, 2 * THREADS - ended);
     printf("sum %llx\n", (unsigned long long)wide);
     return 0;
 }

@@ -64,19 +64,14 @@ static int count(void *given)
     return 0;
 }
 
-/* Gives each part to a thread where a processor waits, and counts the others itself. */
+/* Gives each part to a thread. */
 static void count_all(void)
 {
     thrd_t threads[PARTS];
-    int made[PARTS];
     for (unsigned k = 0; k < PARTS; k += 1)
-        made[k] = thrd_create(&threads[k], count, &parts[k]) == thrd_success;
+        thrd_create(&threads[k], count, &parts[k]);
     for (unsigned k = 0; k < PARTS; k += 1)
-        if (!made[k])
-            count(&parts[k]);
-    for (unsigned k = 0; k < PARTS; k += 1)
-        if (made[k])
-            thrd_join(threads[k], 0);
+        thrd_join(threads[k], 0);
 }
 
 int main(void)

@@ -4,6 +4,7 @@
 
    By `-Wl,--defsym=NAME=BYTES`:
    __heap_size    how much memory malloc and sbrk hand out;
+   __thread_stack_size  the stack of each thread but the first, 64 KiB where nothing is said;
    __stack_size   a stack in shared memory for processor 0; with 0 its stack lies in its private
                   window, as that of each other processor. Where nothing is said, a program that hands
                   work to other processors has 256 KiB, since what it hands on may be its own variable,
@@ -21,6 +22,7 @@ PHDRS
 }
 
 __shasta_heap_size = DEFINED(__heap_size) ? __heap_size : 0x400000;
+__shasta_thread_stack_size = DEFINED(__thread_stack_size) ? __thread_stack_size : 0x10000;
 __shasta_stack_size = DEFINED(__stack_size) ? __stack_size : DEFINED(__shasta_wait) ? 0x40000 : 0;
 
 /* The runtime's own data of each processor, at the top of its private window; below it lies the
@@ -73,6 +75,7 @@ SECTIONS
         . += __shasta_heap_size;
         __heap_end = .;
     } :shared
+    .homes ALIGN(0x1000) (NOLOAD) : { *(.homes) } :shared
 
     /* Nothing lies below the stack, so a processor that uses it up ends by `access`. */
     __shasta_stack_end = 0x60001000;

@@ -1,10 +1,12 @@
-/* The part of C's <threads.h> that fits: a thread is a processor that has nothing to do, and has
-   it until it is joined, or ends if it is detached. There is no clock, and nothing takes turns:
-   a thread that waits keeps its processor. What calls cost is said in misses, as in shasta.h. */
+/* C's <threads.h>. There may be any number of threads: each has a processor, which takes turns with
+   its threads where one of them waits, and interrupts none. There is no clock; see docs/C.md. What
+   calls cost is said in misses, as in shasta.h. */
 #ifndef THREADS_H
 #define THREADS_H
 
 #include <time.h>
+
+#include "shasta_queue.h"
 
 #ifdef __cplusplus
 extern "C" {
@@ -15,39 +17,37 @@ extern "C" {
 enum { mtx_plain = 1, mtx_recursive = 2, mtx_timed = 4 };
 enum { thrd_busy = 1, thrd_error, thrd_nomem, thrd_success, thrd_timedout };
 
-/* The number of the processor. */
-typedef unsigned thrd_t;
+typedef unsigned long thrd_t;
 typedef int (*thrd_start_t)(void *);
 
-/* Calls the function with the argument on a processor that waits; thrd_error where none does. What
-   the argument points to has to lie in shared memory: main's own variables do, those of another
-   thread don't. Two write misses, and a read miss until the thread begins. */
+/* Calls the function with the argument in a new thread, on the processor that has the fewest;
+   thrd_nomem where there is no memory for its stack, which lies in shared memory. Some eight write
+   misses. */
 int thrd_create(thrd_t *thread, thrd_start_t function, void *argument);
 
-/* Waits until the thread has ended, and lets its processor be used again. A read miss when it ends,
-   and a write miss. */
+/* Waits until the thread has ended; thrd_error where it is this one, or none that may be joined. A
+   read miss when it ends. */
 int thrd_join(thrd_t thread, int *result);
 
-/* Lets the processor be used again as soon as the thread ends. A write miss. */
+/* Lets the memory of the thread be used again as soon as it ends. A write miss. */
 int thrd_detach(thrd_t thread);
 
-/* Ends this thread; called by main it ends the program. */
+/* Ends this thread. Called by main it waits until all others have ended, and ends the program. */
 _Noreturn void thrd_exit(int result);
 
 thrd_t thrd_current(void);
 int thrd_equal(thrd_t one, thrd_t other);
 
-/* Nothing to do: no two threads share a processor. */
+/* Lets the other threads of this processor run. */
 void thrd_yield(void);
 
-/* Comes back at once, since there is no clock. */
+/* Lets them run once, and the time go by, as it is counted. */
 int thrd_sleep(const struct timespec *time, struct timespec *left);
 
 /* A mutex, in a line of its own; who came first is first. All zeros it is free, and plain. */
 typedef struct {
-    unsigned next;
-    unsigned serving;
-    unsigned holder;
+    struct shasta_queue queue;
+    void *holder;
     unsigned depth;
     int kind;
 } __attribute__((aligned(64))) mtx_t;
@@ -57,8 +57,8 @@ int mtx_init(mtx_t *mutex, int kind);
 /* A write miss where another node had the mutex last, none where this one had. */
 int mtx_lock(mtx_t *mutex);
 
-/* Takes it where it is free; else thrd_busy, and thrd_timedout of the second, which has no clock
-   and doesn't wait. */
+/* Takes it where it is free, else thrd_busy; the second tries until the time is past, as it is
+   counted: thrd_timedout. */
 int mtx_trylock(mtx_t *mutex);
 int mtx_timedlock(mtx_t *restrict mutex, const struct timespec *restrict until);
 
@@ -68,8 +68,7 @@ void mtx_destroy(mtx_t *mutex);
 
 /* A condition, in a line of its own; who waited first goes on first. */
 typedef struct {
-    unsigned waiting;
-    unsigned signalled;
+    struct shasta_tickets tickets;
 } __attribute__((aligned(64))) cnd_t;
 
 int cnd_init(cnd_t *condition);
@@ -77,7 +76,7 @@ int cnd_init(cnd_t *condition);
 /* A write miss to come and a read miss to see the signal, beside those of the mutex. */
 int cnd_wait(cnd_t *condition, mtx_t *mutex);
 
-/* Doesn't wait, since there is no clock: thrd_timedout. */
+/* Waits until the time is past, as it is counted: thrd_timedout. It may come back without a signal. */
 int cnd_timedwait(cnd_t *restrict condition, mtx_t *restrict mutex,
                   const struct timespec *restrict until);
 
@@ -92,10 +91,11 @@ typedef unsigned once_flag;
 /* A read miss where it was called before. */
 void call_once(once_flag *flag, void (*function)(void));
 
-/* Up to 16 pointers that each thread has for itself, in its private memory: no message. */
+/* Up to 128 keys, by each of which every thread keeps a pointer in its thread-local data: no
+   message. */
 typedef unsigned tss_t;
 typedef void (*tss_dtor_t)(void *);
-#define TSS_DTOR_ITERATIONS 1
+#define TSS_DTOR_ITERATIONS 4
 
 int tss_create(tss_t *key, tss_dtor_t at_end);
 void *tss_get(tss_t key);

@@ -1,6 +1,7 @@
 /* From a processor's start to main, and to its end. */
 #include "own.h"
 
+#include <signal.h>
 #include <stdint.h>
 #include <unistd.h>
 
@@ -43,6 +44,7 @@ _Noreturn void __shasta_begin(unsigned number, unsigned count)
 {
     own.number = number;
     own.count = count;
+    __shasta_find_home();
     if (number == 0)
         run_program();
     if (__shasta_wait)
@@ -59,11 +61,30 @@ _Noreturn void __shasta_end(int code)
         __asm__ volatile("ecall" : "+r"(value) : "r"(call) : "memory");
 }
 
-/* Ends the program where processor 0 calls it: the others end when they have done what they do. Any
-   other processor ends alone. */
+/* Ends the program, whichever processor calls it: the others end when they wait, or have done what
+   they do. */
 _Noreturn void _exit(int code)
 {
-    if (own.number == 0 && __shasta_dismiss)
-        __shasta_dismiss();
+    if (__shasta_tell_end)
+        __shasta_tell_end(code);
     __shasta_end(code);
+}
+
+/* Writes without a lock, which may be spoiled. */
+static void write_now(const char *text)
+{
+    register int file __asm__("a0") = 1;
+    register const char *from __asm__("a1") = text;
+    register unsigned count __asm__("a2") = 0;
+    register int call __asm__("a7") = 64;
+    while (text[count] != 0)
+        count += 1;
+    __asm__ volatile("ecall" : "+r"(file) : "r"(from), "r"(count), "r"(call) : "memory");
+}
+
+_Noreturn void __shasta_fail(const char *why)
+{
+    write_now(why);
+    own.length = 0;
+    _exit(128 + SIGABRT);
 }

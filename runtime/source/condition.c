@@ -1,56 +1,42 @@
-/* The condition of <threads.h>: tickets again, of which a signal serves one, and a broadcast
-   all. */
+/* The condition of <threads.h>. */
+#include "tickets.h"
+
 #include "threads.h"
 
 int cnd_init(cnd_t *condition)
 {
-    *condition = (cnd_t){0, 0};
+    *condition = (cnd_t){0};
     return thrd_success;
 }
 
 int cnd_wait(cnd_t *condition, mtx_t *mutex)
 {
-    unsigned ticket = __atomic_fetch_add(&condition->waiting, 1, __ATOMIC_ACQ_REL);
+    unsigned ticket = __shasta_take_ticket(&condition->tickets);
     mtx_unlock(mutex);
-    while ((int)(__atomic_load_n(&condition->signalled, __ATOMIC_ACQUIRE) - ticket) <= 0)
-        ;
+    __shasta_wait_for_ticket(&condition->tickets, ticket);
     return mtx_lock(mutex);
 }
 
 int cnd_timedwait(cnd_t *restrict condition, mtx_t *restrict mutex,
                   const struct timespec *restrict until)
 {
-    (void)condition;
-    (void)until;
+    unsigned before = __shasta_look_at_signals(&condition->tickets);
     mtx_unlock(mutex);
+    bool signalled = __shasta_wait_for_signal(&condition->tickets, before, until);
     mtx_lock(mutex);
-    return thrd_timedout;
-}
-
-/* Serves so many who wait, or all if they are fewer. */
-static int serve(cnd_t *condition, unsigned most)
-{
-    unsigned before = __atomic_load_n(&condition->signalled, __ATOMIC_ACQUIRE);
-    for (;;) {
-        unsigned count = __atomic_load_n(&condition->waiting, __ATOMIC_ACQUIRE) - before;
-        if (count > most)
-            count = most;
-        if (count == 0)
-            return thrd_success;
-        if (__atomic_compare_exchange_n(&condition->signalled, &before, before + count, 0,
-                                        __ATOMIC_ACQ_REL, __ATOMIC_ACQUIRE))
-            return thrd_success;
-    }
+    return signalled ? thrd_success : thrd_timedout;
 }
 
 int cnd_signal(cnd_t *condition)
 {
-    return serve(condition, 1);
+    __shasta_serve(&condition->tickets, 1);
+    return thrd_success;
 }
 
 int cnd_broadcast(cnd_t *condition)
 {
-    return serve(condition, ~0u);
+    __shasta_serve(&condition->tickets, ~0u);
+    return thrd_success;
 }
 
 void cnd_destroy(cnd_t *condition)

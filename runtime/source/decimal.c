@@ -1,29 +1,15 @@
-/* The decimal digits of a double, for the C library's printf, in place of the library's own, which
-   takes three times as much code. The double is made a decimal number exactly, and rounded once: to
-   the nearest, and a tie to an even digit. */
-#include <stdbool.h>
-#include <stdint.h>
+/* The decimal digits of a number with a point, all of them: it is made a decimal number exactly,
+   and rounded once, to the nearest, and a tie to an even digit. */
+#include "decimal.h"
 
-/* Parts of four digits: so many before the point, and so many behind it, have room for each
-   double. */
-enum { BASE = 10000, BEFORE = 78, BEHIND = 270, ENOUGH = 20 };
-enum { MINUS = 1, ZERO = 2, INFINITE = 4, NO_NUMBER = 8 };
+#include <string.h>
 
-/* A number: its parts, from the first that isn't 0 on. */
-struct decimal {
-    int first;
-    int end;
-    uint16_t part[BEFORE + BEHIND];
-};
+enum { BASE = 10000 };
 
-/* What the library's printf takes: the power of ten of the first digit, and the digits. */
-struct digits {
-    int32_t exponent;
-    uint8_t flags;
-    char digit[17];
-};
+/* What a digit of a part counts. */
+static const uint16_t units[4] = {1000, 100, 10, 1};
 
-/* Multiplies a whole number by 65536 at most, and adds 65535 at most; of 0, any number. */
+/* Multiplies by 65536 at most, and adds 65535 at most; of 0, any number. */
 static void multiply(struct decimal *number, uint32_t factor, uint32_t more)
 {
     for (int k = number->end - 1; k >= number->first; k -= 1) {
@@ -37,7 +23,7 @@ static void multiply(struct decimal *number, uint32_t factor, uint32_t more)
     }
 }
 
-/* Halves a number so many times, 16 at most. */
+/* Halves so many times, 16 at most. */
 static void halve(struct decimal *number, int times)
 {
     uint32_t rest = 0;
@@ -48,117 +34,95 @@ static void halve(struct decimal *number, int times)
         if (k == number->end)
             number->end = k + 1;
     }
-    while (number->part[number->first] == 0)
+    while (number->first < number->end && number->part[number->first] == 0)
         number->first += 1;
 }
 
-/* A mantissa, of its two words, by a power of two. */
-static void make(struct decimal *number, uint32_t high, uint32_t low, int power)
+void __shasta_scale(struct decimal *number, int power)
 {
-    number->first = number->end = BEFORE;
-    multiply(number, 1, high);
-    multiply(number, 1u << 16, low >> 16);
-    multiply(number, 1u << 16, low & 0xffff);
-    for (; power >= 16; power -= 16)
-        multiply(number, 1u << 16, 0);
-    for (; power <= -16; power += 16)
-        halve(number, 16);
     if (power > 0)
         multiply(number, 1u << power, 0);
     else
         halve(number, -power);
 }
 
-/* Writes the first digits, ENOUGH if there are so many, and behind them 1 where there are others
-   that aren't 0; gives how many there are. */
-static int write_digits(const struct decimal *number, char *text)
+void __shasta_make_decimal(struct decimal *number, const struct binary *binary)
 {
-    int count = 0;
-    bool more = false;
-    for (int k = number->first; k < number->end; k += 1) {
-        unsigned part = number->part[k];
-        for (unsigned unit = BASE / 10; count < ENOUGH && unit != 0; unit /= 10) {
-            unsigned digit = part / unit;
-            part %= unit;
-            if (count != 0 || digit != 0)
-                text[count++] = (char)('0' + digit);
-        }
-        more |= part != 0;
-    }
-    if (more)
-        text[count++] = '1';
-    return count;
+    int power = binary->power;
+    number->first = number->end = number->point;
+    for (unsigned k = 0; k < LIMBS; k += 1)
+        multiply(number, 1u << 16, binary->limbs[k]);
+    for (; power > 16; power -= 16)
+        __shasta_scale(number, 16);
+    for (; power < -16; power += 16)
+        __shasta_scale(number, -16);
+    __shasta_scale(number, power);
 }
 
-/* Whether what follows so many digits is more than a half, or a half behind an odd digit. */
-static bool goes_up(const char *text, int wanted, int count)
+void __shasta_set_digits(struct decimal *number, const uint8_t *digits, int count, int last)
 {
-    if (text[wanted] != '5')
-        return text[wanted] > '5';
-    for (int k = wanted + 1; k < count; k += 1)
-        if (text[k] != '0')
-            return true;
-    return wanted > 0 && (text[wanted - 1] & 1);
+    int at = last - count + 1;
+    number->first = at >> 2;
+    number->end = (last >> 2) + 1;
+    memset(&number->part[number->first], 0,
+           (size_t)(number->end - number->first) * sizeof number->part[0]);
+    for (int k = 0; k < count; k += 1, at += 1)
+        number->part[at >> 2] += (uint16_t)(digits[k] * units[at & 3]);
 }
 
-/* Rounds to so many digits, drops zeros behind the last, and gives how many are left; 0 where the
-   number is 0 then. A number of nines becomes the next power of ten. */
-static int round_digits(char *text, int wanted, int count, int32_t *exponent)
+int __shasta_digit(const struct decimal *number, int at)
 {
-    if (wanted < 0)
+    int part = at >> 2;
+    if (part < number->first || part >= number->end)
         return 0;
-    if (wanted < count) {
-        bool up = goes_up(text, wanted, count);
-        count = wanted;
-        while (up && count > 0 && text[count - 1] == '9')
-            count -= 1;
-        if (up && count > 0) {
-            text[count - 1] += 1;
-        } else if (up) {
-            text[0] = '1';
-            *exponent += 1;
-            count = 1;
-        }
-    }
-    while (count > 0 && text[count - 1] == '0')
-        count -= 1;
-    return count;
+    return number->part[part] / units[at & 3] % 10;
 }
 
-/* At most so many digits, of these at most so many behind the point where it is `fixed`; gives how
-   many there are. */
-int __dtoa_engine(double value, struct digits *digits, int most, bool fixed, int places)
+int __shasta_first_digit(const struct decimal *number)
 {
-    union {
-        double value;
-        uint32_t words[2];
-    } bits = {value};
-    char text[ENOUGH + 1];
-    struct decimal number;
-    uint32_t low = bits.words[0], high = bits.words[1] & 0xfffff;
-    int power = (int)(bits.words[1] >> 20 & 0x7ff);
-    digits->exponent = 0;
-    digits->flags = bits.words[1] >> 31 ? MINUS : 0;
-    digits->digit[0] = '0';
-    if (power == 0x7ff) {
-        digits->flags |= (high | low) != 0 ? NO_NUMBER : INFINITE;
-        return 0;
+    int at = 4 * number->first;
+    while (at < 4 * number->end && __shasta_digit(number, at) == 0)
+        at += 1;
+    return at;
+}
+
+int __shasta_last_digit(const struct decimal *number)
+{
+    int at = 4 * number->end - 1;
+    while (at >= 4 * number->first && __shasta_digit(number, at) == 0)
+        at -= 1;
+    return at;
+}
+
+/* Whether what follows a digit is more than a half of it, or a half and the digit odd. */
+static bool goes_up(const struct decimal *number, int at)
+{
+    int next = __shasta_digit(number, at + 1);
+    if (next != 5 || __shasta_last_digit(number) > at + 1)
+        return next >= 5;
+    return __shasta_digit(number, at) & 1;
+}
+
+void __shasta_round(struct decimal *number, int at)
+{
+    int part = at >> 2;
+    unsigned unit = units[at & 3];
+    if (part >= number->end || at + 1 < 4 * number->first) {
+        if (part < number->end)
+            number->end = number->first;
+        return;
     }
-    if (power == 0 && (high | low) == 0) {
-        digits->flags |= ZERO;
-        return 1;
+    bool up = goes_up(number, at);
+    for (; number->first > part; number->first -= 1)
+        number->part[number->first - 1] = 0;
+    number->end = part + 1;
+    number->part[part] -= (uint16_t)(number->part[part] % unit);
+    for (; up; part -= 1, unit = 1) {
+        if (part < number->first)
+            number->part[number->first = part] = 0;
+        number->part[part] += (uint16_t)unit;
+        up = number->part[part] == BASE;
+        if (up)
+            number->part[part] = 0;
     }
-    make(&number, power == 0 ? high : high | 0x100000, low, (power == 0 ? 1 : power) - 1075);
-    int count = write_digits(&number, text);
-    int32_t exponent = 4 * (BEFORE - 1 - number.first);
-    for (unsigned part = number.part[number.first]; part >= 10; part /= 10)
-        exponent += 1;
-    int wanted = fixed && exponent + 1 + places < most ? exponent + 1 + places : most;
-    count = round_digits(text, wanted, count, &exponent);
-    if (count == 0)
-        return 1;
-    digits->exponent = exponent;
-    for (int k = 0; k < count; k += 1)
-        digits->digit[k] = text[k];
-    return count;
 }

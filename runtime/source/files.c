@@ -21,8 +21,11 @@ static int fails(int error)
     return -1;
 }
 
+/* The one folder is that where programs begin: `./name` and `/name` are `name`. */
 static const struct linked_file *named(const char *name)
 {
+    while (*name == '/' || (name[0] == '.' && name[1] == '/'))
+        name += *name == '/' ? 1 : 2;
     for (const struct linked_file *file = linked_files; file->name != 0; file += 1)
         if (strcmp(file->name, name) == 0)
             return file;
@@ -55,7 +58,7 @@ int open(const char *name, int flags, ...)
 int close(int number)
 {
     if (!is_open(number))
-        return fails(EBADF);
+        return number >= 0 && number < FIRST ? 0 : fails(EBADF);
     __atomic_store_n(&open_files[number - FIRST].file, 0, __ATOMIC_RELEASE);
     return 0;
 }
@@ -78,15 +81,19 @@ ssize_t read(int number, void *bytes, size_t most)
 off_t lseek(int number, off_t to, int whence)
 {
     if (!is_open(number))
-        return fails(number < FIRST ? ESPIPE : EBADF);
+        return fails(number >= 0 && number < FIRST ? ESPIPE : EBADF);
     off_t from = 0;
     if (whence == SEEK_CUR)
         from = open_files[number - FIRST].at;
     else if (whence == SEEK_END)
         from = (off_t)open_files[number - FIRST].file->length;
-    if (from + to < 0)
+    else if (whence != SEEK_SET)
         return fails(EINVAL);
-    return open_files[number - FIRST].at = from + to;
+    if (__builtin_add_overflow(from, to, &to))
+        return fails(EOVERFLOW);
+    if (to < 0)
+        return fails(EINVAL);
+    return open_files[number - FIRST].at = to;
 }
 
 static int describe(const struct linked_file *file, struct stat *status)

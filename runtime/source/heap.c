@@ -1,16 +1,16 @@
 /* malloc and its kin. Each processor takes small blocks from pages of its own, a page for each
    size, so that no line has blocks of two processors; what it needs for that lies in its private
    memory, so it takes no lock and sends no message but for a new page. A block that another
-   processor gives back goes to the owner of its page. Large blocks are whole pages of the one
-   arena, by first fit. */
-#include "own.h"
+   processor gives back goes to the owner of its page. Large blocks are whole pages. */
+#include "pages.h"
 
 #include <errno.h>
 #include <malloc.h>
+#include <stdbool.h>
 #include <stdint.h>
 #include <string.h>
 
-enum { PAGE = 4096, HEAD = 64, LARGEST_SMALL = 2016 };
+enum { HEAD = 64, LARGEST_SMALL = 2016 };
 
 /* What stands before the blocks of a page, or before a large block, in a line of its own. */
 struct head {
@@ -22,23 +22,14 @@ struct head {
 
 enum { LARGE = MOST_PROCESSORS };
 
-/* Pages that are free, by their addresses. */
-struct run {
-    struct run *next;
-    unsigned pages;
-};
-
 static const unsigned short sizes[BINS] = {
     16, 32, 48, 64, 128, 192, 256, 320, 448, 576, 768, 1344, LARGEST_SMALL,
 };
 
 /* Blocks that other processors have given back to each owner. */
 static struct {
-    void *first IN_OWN_LINE;
+    void *first SHASTA_IN_OWN_LINE;
 } returned[MOST_PROCESSORS];
-
-static struct lock lock;
-static struct run *runs;
 
 static unsigned bin_of(size_t bytes)
 {
@@ -60,71 +51,22 @@ static void *out_of_memory(void)
     return 0;
 }
 
-/* Takes so many pages of the first free run that has them. The lock is held. */
-static char *pages_of_runs(unsigned pages)
+/* A large block at a multiple of so many bytes, HEAD or more; of zeros where that is asked for. Its
+   head stands before it, at the start of its page. */
+static void *take_large(size_t bytes, size_t multiple, bool is_zero)
 {
-    for (struct run **at = &runs; *at != 0; at = &(*at)->next) {
-        struct run *run = *at;
-        if (run->pages < pages)
-            continue;
-        if (run->pages == pages) {
-            *at = run->next;
-            return (char *)run;
-        }
-        run->pages -= pages;
-        return (char *)run + (size_t)run->pages * PAGE;
-    }
-    return 0;
-}
-
-static char *take_pages(unsigned pages)
-{
-    enter(&lock);
-    char *taken = pages_of_runs(pages);
-    leave(&lock);
-    return taken != 0 ? taken : __shasta_more((size_t)pages * PAGE, PAGE);
-}
-
-/* Joins a run with the next one where they touch. */
-static void join(struct run *run)
-{
-    if ((char *)run + (size_t)run->pages * PAGE != (char *)run->next)
-        return;
-    run->pages += run->next->pages;
-    run->next = run->next->next;
-}
-
-static void give_pages(char *from, unsigned pages)
-{
-    struct run *given = (struct run *)from;
-    struct run *before = 0;
-    enter(&lock);
-    for (struct run *run = runs; run != 0 && run < given; run = run->next)
-        before = run;
-    struct run **at = before != 0 ? &before->next : &runs;
-    given->pages = pages;
-    given->next = *at;
-    *at = given;
-    join(given);
-    if (before != 0)
-        join(before);
-    leave(&lock);
-}
-
-/* A large block at a multiple of PAGE or more, or right behind its head where that is asked for. */
-static void *take_large(size_t bytes, size_t multiple)
-{
-    size_t before = multiple <= HEAD ? HEAD : multiple;
-    if (bytes > UINT32_MAX - before - PAGE)
+    bool is_fresh;
+    if (bytes > SIZE_MAX - PAGE - multiple)
         return out_of_memory();
-    unsigned pages = (unsigned)((before + bytes + PAGE - 1) / PAGE);
-    char *run = take_pages(pages);
+    unsigned pages = (unsigned)((multiple + bytes + PAGE - 1) / PAGE);
+    char *run = __shasta_take_pages(pages, &is_fresh);
     if (run == 0)
         return out_of_memory();
     char *block = run + HEAD;
-    if (multiple > HEAD)
-        block += -(uintptr_t)block % multiple;
-    *(struct head *)(block - HEAD) = (struct head){(unsigned)bytes, LARGE, run, pages};
+    block += -(uintptr_t)block % multiple;
+    *head_of(block) = (struct head){(unsigned)bytes, LARGE, run, pages};
+    if (is_zero && !is_fresh)
+        memset(block, 0, bytes);
     return block;
 }
 
@@ -152,7 +94,8 @@ static void collect_returned(void)
 /* Gives a bin a new page, and says whether there was one. */
 static int open_page(struct bin *bin, unsigned size)
 {
-    char *page = take_pages(1);
+    bool is_fresh;
+    char *page = __shasta_take_pages(1, &is_fresh);
     if (page == 0)
         return 0;
     *(struct head *)page = (struct head){size, own.number, 0, 1};
@@ -180,7 +123,7 @@ static void *take_small(unsigned index)
 
 void *malloc(size_t bytes)
 {
-    return bytes <= LARGEST_SMALL ? take_small(bin_of(bytes)) : take_large(bytes, HEAD);
+    return bytes <= LARGEST_SMALL ? take_small(bin_of(bytes)) : take_large(bytes, HEAD, false);
 }
 
 void free(void *block)
@@ -189,7 +132,7 @@ void free(void *block)
         return;
     struct head *head = head_of(block);
     if (head->owner == LARGE) {
-        give_pages(head->run, head->pages);
+        __shasta_give_pages(head->run, head->pages);
     } else if (head->owner == own.number) {
         put_back(block, head->size);
     } else {
@@ -217,16 +160,21 @@ void *calloc(size_t count, size_t size)
     size_t bytes;
     if (__builtin_mul_overflow(count, size, &bytes))
         return out_of_memory();
-    void *block = malloc(bytes);
+    if (bytes > LARGEST_SMALL)
+        return take_large(bytes, HEAD, true);
+    void *block = take_small(bin_of(bytes));
     return block != 0 ? memset(block, 0, bytes) : 0;
 }
 
+/* A block that shrinks by less than a half stays, and one that shrinks where there is no room. */
 void *realloc(void *block, size_t bytes)
 {
     size_t had = malloc_usable_size(block);
     if (block != 0 && bytes <= had && bytes >= had / 2)
         return block;
     void *moved = malloc(bytes);
+    if (moved == 0 && block != 0 && bytes <= had)
+        return block;
     if (moved == 0 || block == 0)
         return moved;
     memcpy(moved, block, bytes < had ? bytes : had);
@@ -234,18 +182,23 @@ void *realloc(void *block, size_t bytes)
     return moved;
 }
 
-/* A block at a multiple of so many bytes, a power of two. */
+/* A block at a multiple of so many bytes, a power of two. Small blocks of a whole number of lines
+   stand at lines. */
 void *memalign(size_t multiple, size_t bytes)
 {
+    if (multiple == 0 || (multiple & (multiple - 1)) != 0) {
+        errno = EINVAL;
+        return 0;
+    }
     if (multiple <= 16)
         return malloc(bytes);
-    if (multiple > HEAD)
-        return take_large(bytes, multiple < PAGE ? PAGE : multiple);
+    if (multiple > HEAD || bytes > LARGEST_SMALL)
+        return take_large(bytes, multiple < HEAD ? HEAD : multiple, false);
     size_t whole = (bytes + HEAD - 1) / HEAD * HEAD;
     unsigned index = whole <= LARGEST_SMALL ? bin_of(whole < HEAD ? HEAD : whole) : BINS;
     while (index < BINS && sizes[index] % HEAD != 0)
         index += 1;
-    return index < BINS ? take_small(index) : take_large(bytes, HEAD);
+    return index < BINS ? take_small(index) : take_large(bytes, HEAD, false);
 }
 
 void *aligned_alloc(size_t multiple, size_t bytes)
@@ -255,7 +208,11 @@ void *aligned_alloc(size_t multiple, size_t bytes)
 
 int posix_memalign(void **block, size_t multiple, size_t bytes)
 {
+    int before = errno;
+    if (multiple % sizeof(void *) != 0 || multiple == 0 || (multiple & (multiple - 1)) != 0)
+        return EINVAL;
     void *taken = memalign(multiple, bytes);
+    errno = before;
     if (taken == 0)
         return ENOMEM;
     *block = taken;

@@ -4,7 +4,7 @@
 #include <sys/lock.h>
 
 struct __lock {
-    struct lock lock;
+    struct shasta_lock lock;
     unsigned holder;         /* the processor's number and 1, or 0 */
     unsigned depth;
 };
@@ -14,7 +14,7 @@ struct __lock __lock___libc_recursive_mutex;
 void __retarget_lock_acquire_recursive(_LOCK_T lock)
 {
     if (__atomic_load_n(&lock->holder, __ATOMIC_RELAXED) != own.number + 1) {
-        enter(&lock->lock);
+        __shasta_enter(&lock->lock);
         __atomic_store_n(&lock->holder, own.number + 1, __ATOMIC_RELAXED);
     }
     lock->depth += 1;
@@ -26,7 +26,7 @@ void __retarget_lock_release_recursive(_LOCK_T lock)
     if (lock->depth != 0)
         return;
     __atomic_store_n(&lock->holder, 0, __ATOMIC_RELAXED);
-    leave(&lock->lock);
+    shasta_leave(&lock->lock);
 }
 
 void __retarget_lock_init(_LOCK_T *lock)

@@ -1,4 +1,5 @@
-/* The mutex of <threads.h>: tickets, which are served in their order. */
+/* The mutex of <threads.h>: a queue, and who holds it, where that matters. */
+#include "clock.h"
 #include "own.h"
 
 #include "threads.h"
@@ -9,12 +10,12 @@ int mtx_init(mtx_t *mutex, int kind)
     return thrd_success;
 }
 
-/* Whether this processor has it already, and may take it again. */
+/* Whether this one has it already, and may take it again: it is known by where it waits. */
 static int takes_again(mtx_t *mutex)
 {
     if (!(mutex->kind & mtx_recursive))
         return 0;
-    if (__atomic_load_n(&mutex->holder, __ATOMIC_RELAXED) != own.number + 1)
+    if (__atomic_load_n(&mutex->holder, __ATOMIC_RELAXED) != own.places)
         return 0;
     mutex->depth += 1;
     return 1;
@@ -22,7 +23,9 @@ static int takes_again(mtx_t *mutex)
 
 static void hold(mtx_t *mutex)
 {
-    __atomic_store_n(&mutex->holder, own.number + 1, __ATOMIC_RELAXED);
+    if (!(mutex->kind & mtx_recursive))
+        return;
+    __atomic_store_n(&mutex->holder, own.places, __ATOMIC_RELAXED);
     mutex->depth = 1;
 }
 
@@ -30,9 +33,7 @@ int mtx_lock(mtx_t *mutex)
 {
     if (takes_again(mutex))
         return thrd_success;
-    unsigned ticket = __atomic_fetch_add(&mutex->next, 1, __ATOMIC_RELAXED);
-    while (__atomic_load_n(&mutex->serving, __ATOMIC_ACQUIRE) != ticket)
-        ;
+    __shasta_queue_enter(&mutex->queue);
     hold(mutex);
     return thrd_success;
 }
@@ -41,27 +42,31 @@ int mtx_trylock(mtx_t *mutex)
 {
     if (takes_again(mutex))
         return thrd_success;
-    unsigned ticket = __atomic_load_n(&mutex->serving, __ATOMIC_ACQUIRE);
-    if (!__atomic_compare_exchange_n(&mutex->next, &ticket, ticket + 1, 0, __ATOMIC_ACQUIRE,
-                                     __ATOMIC_RELAXED))
+    if (!__shasta_queue_try(&mutex->queue)) {
+        shasta_rest();
         return thrd_busy;
+    }
     hold(mutex);
     return thrd_success;
 }
 
 int mtx_timedlock(mtx_t *restrict mutex, const struct timespec *restrict until)
 {
-    (void)until;
-    return mtx_trylock(mutex) == thrd_success ? thrd_success : thrd_timedout;
+    while (mtx_trylock(mutex) != thrd_success)
+        if (__shasta_is_past(until))
+            return thrd_timedout;
+    return thrd_success;
 }
 
 int mtx_unlock(mtx_t *mutex)
 {
-    mutex->depth -= 1;
-    if (mutex->depth != 0)
-        return thrd_success;
-    __atomic_store_n(&mutex->holder, 0, __ATOMIC_RELAXED);
-    __atomic_store_n(&mutex->serving, mutex->serving + 1, __ATOMIC_RELEASE);
+    if (mutex->kind & mtx_recursive) {
+        mutex->depth -= 1;
+        if (mutex->depth != 0)
+            return thrd_success;
+        __atomic_store_n(&mutex->holder, 0, __ATOMIC_RELAXED);
+    }
+    __shasta_queue_leave(&mutex->queue);
     return thrd_success;
 }
 

@@ -1,9 +1,11 @@
-/* call_once of <threads.h>. */
-#include "threads.h"
+/* What is done once. */
+#include "once.h"
 
-enum { NOT_YET = ONCE_FLAG_INIT, UNDER_WAY, CALLED };
+#include "shasta.h"
 
-void call_once(once_flag *flag, void (*function)(void))
+enum { NOT_YET, UNDER_WAY, CALLED };
+
+void __shasta_once(unsigned *flag, void (*function)(void))
 {
     unsigned before = NOT_YET;
     if (__atomic_load_n(flag, __ATOMIC_ACQUIRE) == CALLED)
@@ -14,5 +16,5 @@ void call_once(once_flag *flag, void (*function)(void))
         __atomic_store_n(flag, CALLED, __ATOMIC_RELEASE);
     }
     while (__atomic_load_n(flag, __ATOMIC_ACQUIRE) != CALLED)
-        ;
+        shasta_rest();
 }

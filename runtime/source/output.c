@@ -1,23 +1,26 @@
 /* The output: each processor collects a line in its own memory and writes it whole, under a
-   lock, so that lines of two don't mix. stdout and stderr are this one output; there is no
-   input. */
+   lock, so that lines of two don't mix. A long line gets room from the arena, which is kept for
+   the next; one that is longer than LONGEST, or has no room, is written in parts. stdout and
+   stderr are this one output; there is no input. */
 #include "own.h"
 
 #include <errno.h>
 #include <stdio.h>
 #include <unistd.h>
 
-static struct lock output;
+enum { LONG = 4096, LONGEST = 65536 };
+
+static struct shasta_lock output;
 
 static int write_all(const char *bytes, unsigned length)
 {
-    enter(&output);
+    __shasta_enter(&output);
     register int file __asm__("a0") = 1;
     register const char *from __asm__("a1") = bytes;
     register unsigned count __asm__("a2") = length;
     register int call __asm__("a7") = 64;
     __asm__ volatile("ecall" : "+r"(file) : "r"(from), "r"(count), "r"(call) : "memory");
-    leave(&output);
+    shasta_leave(&output);
     return file;
 }
 
@@ -26,15 +29,43 @@ void __shasta_flush(void)
     unsigned length = own.length;
     own.length = 0;
     if (length != 0)
-        write_all(own.line, length);
+        write_all(length <= LINE_BYTES ? own.line : own.long_line, length);
+}
+
+/* As memcpy, which is longer than what calls it. */
+static void copy(char *to, const char *from, unsigned length)
+{
+    for (unsigned k = 0; k < length; k += 1)
+        to[k] = from[k];
+}
+
+/* Makes the line longer, and says whether there was room. */
+static int make_room(void)
+{
+    if (own.length == own.room || own.long_line == 0) {
+        unsigned room = own.room == 0 ? LONG : LONGEST;
+        char *longer = own.room == LONGEST ? 0 : __shasta_more(room, SHASTA_LINE);
+        if (longer == 0)
+            return 0;
+        if (own.room != 0)
+            copy(longer, own.long_line, own.length);
+        own.long_line = longer;
+        own.room = room;
+    }
+    if (own.length == LINE_BYTES)
+        copy(own.long_line, own.line, LINE_BYTES);
+    return 1;
 }
 
 static int put(char byte, FILE *file)
 {
     (void)file;
-    own.line[own.length] = byte;
+    if ((own.length == LINE_BYTES || own.length == own.room) && own.length != 0 && !make_room())
+        __shasta_flush();
+    char *line = own.length < LINE_BYTES ? own.line : own.long_line;
+    line[own.length] = byte;
     own.length += 1;
-    if (byte == '\n' || own.length == LINE_BYTES)
+    if (byte == '\n')
         __shasta_flush();
     return (unsigned char)byte;
 }

@@ -1,54 +1,50 @@
-/* Threads of <threads.h>: each is a processor that was waiting. */
-#include "pool.h"
-
+/* Threads of <threads.h>. */
 #include "threads.h"
 
+#include "clock.h"
+#include "thread.h"
+
+#include <stdint.h>
+
+static int as_in_c(int error)
+{
+    return error == 0 ? thrd_success : thrd_error;
+}
+
+/* An int comes back in the register of a pointer. */
 int thrd_create(thrd_t *thread, thrd_start_t function, void *argument)
 {
-    unsigned processor = __shasta_take_processor();
-    if (processor == 0)
-        return thrd_error;
-    struct seat *seat = &__shasta_seats[processor];
-    seat->thread = function;
-    seat->argument = argument;
-    __atomic_store_n(&seat->flags, 0, __ATOMIC_RELAXED);
-    *thread = processor;
-    __shasta_call(processor);
+    thread_function called = (thread_function)(void (*)(void))function;
+    struct thread *made = __shasta_make_thread(called, argument, DEFAULT_STACK, 0, ANY_PROCESSOR);
+    *thread = (thrd_t)made;
+    if (made == 0)
+        return thrd_nomem;
+    __shasta_wake(made);
     return thrd_success;
 }
 
 int thrd_join(thrd_t thread, int *result)
 {
-    if (thread == 0 || thread >= own.count)
-        return thrd_error;
-    __shasta_wait_until_done(thread);
-    if (result != 0)
-        *result = __shasta_seats[thread].result;
-    __shasta_give_processors(1u << thread);
-    return thrd_success;
+    void *given = 0;
+    int error = __shasta_join_thread((struct thread *)thread, &given);
+    if (error == 0 && result != 0)
+        *result = (int)(intptr_t)given;
+    return as_in_c(error);
 }
 
 int thrd_detach(thrd_t thread)
 {
-    if (thread == 0 || thread >= own.count)
-        return thrd_error;
-    if (__atomic_fetch_or(&__shasta_seats[thread].flags, DETACHED, __ATOMIC_ACQ_REL) & OVER) {
-        __shasta_wait_until_done(thread);
-        __shasta_give_processors(1u << thread);
-    }
-    return thrd_success;
+    return as_in_c(__shasta_detach_thread((struct thread *)thread));
 }
 
 _Noreturn void thrd_exit(int result)
 {
-    if (own.number == 0)
-        exit(0);
-    __shasta_end_thread(result);
+    __shasta_end_thread((void *)(intptr_t)result);
 }
 
 thrd_t thrd_current(void)
 {
-    return own.number;
+    return (thrd_t)__shasta_self();
 }
 
 int thrd_equal(thrd_t one, thrd_t other)
@@ -58,12 +54,13 @@ int thrd_equal(thrd_t one, thrd_t other)
 
 void thrd_yield(void)
 {
+    shasta_rest();
 }
 
 int thrd_sleep(const struct timespec *time, struct timespec *left)
 {
-    (void)time;
     if (left != 0)
         *left = (struct timespec){0};
+    __shasta_pass(time);
     return 0;
 }
