@@ -1,21 +1,22 @@
 /* Barnes and Hut: bodies in the plane attract each other, by a tree. A square that has more than
    one body is divided into four, until each body is alone; what is far away attracts by its centre
    of mass, as one. All processors put their bodies into the tree, find the masses of its squares
-   and the forces on their bodies, and move these. What a body reads of the tree, and in which
-   order, is the same for every number of processors, so the floats are too. Each force is compared
-   with that of all bodies, one by one.
+   and the forces on their bodies, and move these. The bodies stand in the order of a curve that
+   goes through all quarters (Morton's), so those of a processor are near each other, and a
+   processor has as many as cost it no more than the others: by what each body cost in the step
+   before. What a body reads of the tree, and in which order, is the same for every number of
+   processors, so the floats are too. In the end some forces are compared with those of all bodies,
+   one by one.
 
-   Layout: a body's place and mass are read by all and written by the processor that moves it.
-   With 64 bodies each of four processors moves 512 bytes of them, and a block of 512 brings them
-   by one request. While the tree is made, processors write into each other's squares; then all
-   read it. Blocks of 128 bring four squares by one request, and larger ones cost more in the
-   making than they spare later. */
+   Layout: a body's place and mass are read by all and written by the processor that moves it, where
+   it is at home. While the tree is made, processors write into each other's squares; then all read
+   it. Blocks of 128 bring four squares by one request. */
 #include "kernel.h"
 
 #ifndef SIZE
 #define SIZE 64
 #endif
-enum { MOST = 16, CELLS = 4 * SIZE, STEPS = 2, BITS = 16, ROOT = 1 };
+enum { CELLS = 4 * SIZE, STEPS = 2, BITS = 16, ROOT = 1, CHECKED = 8 };
 
 /* A mass, and where its centre is. */
 struct weight {
@@ -27,7 +28,7 @@ struct body {
     struct weight weight;
     float speed[2];
     unsigned place[2];       /* below 1 << BITS */
-    unsigned unused;
+    unsigned cost;           /* how many masses attracted it in the step before */
 };
 
 /* A square. What lies in each quarter is 0 for nothing, a square's number, or the complement of a
@@ -45,7 +46,12 @@ static struct {
 } made[MOST];
 static struct barrier barrier;
 static unsigned lost IN_OWN_LINE;
-static unsigned wrong IN_OWN_LINE;
+
+/* The bodies of a processor. */
+struct part {
+    unsigned from;
+    unsigned to;
+};
 
 static struct cell *cell_of(int number)
 {
@@ -169,18 +175,20 @@ static void add_pull(const struct body *body, const struct weight *weight, float
 }
 
 /* Adds how a square or a body attracts a body; a square that is near for its side does so by its
-   quarters. */
-static void add_tree(const struct body *body, int number, float side, float pull[3])
+   quarters. Gives how many masses there were. */
+static unsigned add_tree(const struct body *body, int number, float side, float pull[3])
 {
     const struct weight *weight = weight_of(number);
     float across = weight->at[0] - body->weight.at[0], down = weight->at[1] - body->weight.at[1];
+    unsigned count = 0;
     if (number < 0 || 4 * side * side < across * across + down * down) {
         add_pull(body, weight, pull);
-        return;
+        return 1;
     }
     for (unsigned k = 0; k < 4; k += 1)
         if (cell_of(number)->quarters[k] != 0)
-            add_tree(body, cell_of(number)->quarters[k], side / 2, pull);
+            count += add_tree(body, cell_of(number)->quarters[k], side / 2, pull);
+    return count;
 }
 
 /* Whether the tree's force is that of all bodies, but for a part in 32. */
@@ -197,58 +205,118 @@ static int is_right(const struct body *body, const float pull[3])
     return 1;
 }
 
+static void put_at(struct body *body, unsigned axis, unsigned place)
+{
+    body->place[axis] = place;
+    body->weight.at[axis] = (float)place;
+}
+
 static void move(struct body *body, const float pull[3])
 {
     for (unsigned axis = 0; axis < 2; axis += 1) {
         body->speed[axis] += pull[axis] * 4096;
         float place = body->weight.at[axis] + body->speed[axis];
-        body->place[axis] = place < 0 ? 0 : place > 65535 ? 65535 : (unsigned)place;
+        put_at(body, axis, place < 0 ? 0 : place > 65535 ? 65535 : (unsigned)place);
     }
 }
 
-/* One step of the bodies in a part. */
-static void step(unsigned from, unsigned to)
+/* Makes bodies along the curve: each somewhere on a stretch of its own. */
+static void fill(struct part part)
 {
-    float pulls[SIZE][3] = {{0}};
-    for (unsigned k = from; k < to; k += 1)
+    enum { STRETCH = 0xffffffffu / SIZE };
+    for (unsigned k = part.from; k < part.to; k += 1) {
+        unsigned along = k * STRETCH + next_of(next_of(k)) % STRETCH, places[2] = {0, 0};
+        for (unsigned bit = 0; bit < BITS; bit += 1)
+            for (unsigned axis = 0; axis < 2; axis += 1)
+                places[axis] |= (along >> (2 * bit + axis) & 1) << bit;
         for (unsigned axis = 0; axis < 2; axis += 1)
-            bodies[k].weight.at[axis] = (float)bodies[k].place[axis];
+            put_at(&bodies[k], axis, places[axis]);
+        bodies[k].weight.mass = (float)(1 + k % 3);
+        bodies[k].cost = 1;
+    }
+}
+
+/* This processor's part of the bodies: all parts have cost the same. */
+static struct part part_of_cost(void)
+{
+    unsigned all = 0, before = 0;
+    struct part part = {SIZE, SIZE};
+    for (unsigned k = 0; k < SIZE; k += 1)
+        all += bodies[k].cost;
+    for (unsigned k = 0; k < SIZE; k += 1) {
+        unsigned owner = before * processors() / all;
+        if (part.from == SIZE && owner >= processor())
+            part.from = k;
+        if (part.to == SIZE && owner > processor())
+            part.to = k;
+        before += bodies[k].cost;
+    }
+    return part;
+}
+
+static void make_tree(struct part part)
+{
     begin_tree();
     meet(&barrier, processors());
-    for (unsigned k = from; k < to; k += 1)
+    for (unsigned k = part.from; k < part.to; k += 1)
         if (!insert(~(int)k))
             fetch_and_add(&lost, 1);
     meet(&barrier, processors());
     weigh_tree();
-    for (unsigned k = from; k < to; k += 1) {
-        add_tree(&bodies[k], ROOT, 1 << BITS, pulls[k]);
-        if (!is_right(&bodies[k], pulls[k]))
-            fetch_and_add(&wrong, 1);
-    }
-    meet(&barrier, processors());
-    for (unsigned k = from; k < to; k += 1)
-        move(&bodies[k], pulls[k]);
 }
 
+/* One step of the bodies in a part. */
+static void step(struct part part)
+{
+    float pulls[SIZE][3];
+    make_tree(part);
+    for (unsigned k = part.from; k < part.to; k += 1) {
+        float *pull = pulls[k - part.from];
+        pull[0] = pull[1] = pull[2] = 0;
+        bodies[k].cost = add_tree(&bodies[k], ROOT, 1 << BITS, pull);
+    }
+    meet(&barrier, processors());
+    for (unsigned k = part.from; k < part.to; k += 1)
+        move(&bodies[k], pulls[k - part.from]);
+}
+
+static void check(struct part part)
+{
+    unsigned sum = 0, wrong = 0;
+    make_tree(part);
+    for (unsigned k = part.from; k < part.to; k += 1) {
+        float pull[3] = {0};
+        for (unsigned axis = 0; axis < 2; axis += 1)
+            sum += at_place(2 * k + axis, bodies[k].place[axis]);
+        if (k % CHECKED != 0)
+            continue;
+        add_tree(&bodies[k], ROOT, 1 << BITS, pull);
+        wrong += !is_right(&bodies[k], pull);
+    }
+    tell(sum, wrong);
+}
+
+/* The first step tells what each body costs. */
 static void work(void *unused)
 {
+    struct part part = {first_of(SIZE, processor()), first_of(SIZE, processor() + 1)};
     (void)unused;
-    for (unsigned count = 0; count < STEPS; count += 1)
-        step(processor() * SIZE / processors(), (processor() + 1) * SIZE / processors());
+    fill(part);
+    step(part);
+    meet(&barrier, processors());
+    phase(1);
+    for (unsigned count = 0; count < STEPS; count += 1) {
+        part = part_of_cost();
+        step(part);
+    }
+    meet(&barrier, processors());
+    phase(2);
+    check(part);
 }
 
 int main(void)
 {
-    unsigned seed = 11, sum = 0;
-    for (unsigned k = 0; k < SIZE; k += 1)
-        for (unsigned axis = 0; axis < 2; axis += 1) {
-            seed = next_of(seed);
-            bodies[k].place[axis] = seed >> 16;
-            bodies[k].weight.mass = (float)(1 + k % 3);
-        }
     parallel(work, 0);
-    for (unsigned k = 0; k < SIZE; k += 1)
-        for (unsigned axis = 0; axis < 2; axis += 1)
-            sum = sum * 31 + bodies[k].place[axis];
-    return report("barnes", wrong + lost, sum);
+    tell(0, lost);
+    return report("barnes");
 }

@@ -1,49 +1,97 @@
-/* FFT in six steps: the transform of SIZE * SIZE numbers that stand in a square, modulo 40961, so
+/* FFT in six steps: the transform of SIZE * SIZE numbers that stand in a square, modulo 65537, so
    that every number of processors gives the same. The square is transposed, its rows are
    transformed, and each number is turned by a root of one; it is transposed and transformed again,
-   and transposed. A processor has a band of rows, and checks a number of each of its rows by the
-   sum that defines it.
+   and transposed. A processor has a band of rows. To transpose, each puts what another wants into a
+   tile for it, and then fetches the tiles that are for it. Each checks a number of some of its rows
+   by the sum that defines it.
 
-   Layout: where a processor transposes, it reads a part of each row of another's band. With SIZE
-   32 on four nodes a band has 1024 bytes, so a block of 1024 fetches it by one request, and no
-   block has rows of two bands. */
+   Layout: a tile is written by one processor and read by one other, as a whole. The tiles that a
+   processor writes are at home there, and so are its rows, which nobody else touches. */
 #include "kernel.h"
 
 #ifndef SIZE
 #define SIZE 32
 #endif
-enum { COUNT = SIZE * SIZE, MODULUS = 40961, GENERATOR = 3 };
+enum { COUNT = SIZE * SIZE, MODULUS = 65537, GENERATOR = 3, CHECKED = 16 };
 
 _Static_assert((MODULUS - 1) % COUNT == 0, "one has a root of this order");
 
-static unsigned square[2][SIZE][SIZE] __attribute__((aligned(4096)));
+static unsigned rows[SIZE][SIZE] __attribute__((aligned(4096)));
+static unsigned tiles[2][COUNT] __attribute__((aligned(4096)));
 static struct barrier barrier;
-static unsigned wrong;
 
 static unsigned original(unsigned index)
 {
-    return next_of(index) >> 12 & 0x7fff;
+    return next_of(index) >> 12 & 0xffff;
+}
+
+/* A product of two numbers that are at most 65536, by the modulus: 65536 is -1. */
+static inline unsigned product(unsigned one, unsigned other)
+{
+    unsigned whole = one * other;
+    int rest = (int)((whole & 0xffff) - (whole >> 16) + ((one & other) >> 16));
+    return (unsigned)(rest < 0 ? rest + MODULUS : rest);
+}
+
+static inline unsigned sum_of(unsigned one, unsigned other)
+{
+    unsigned sum = one + other;
+    return sum >= MODULUS ? sum - MODULUS : sum;
+}
+
+static unsigned root_power(unsigned number, unsigned exponent)
+{
+    unsigned result = 1;
+    for (; exponent != 0; exponent /= 2) {
+        if (exponent & 1)
+            result = product(result, number);
+        number = product(number, number);
+    }
+    return result;
 }
 
 static unsigned first_row(unsigned band)
 {
-    return band * SIZE / processors();
+    return first_of(SIZE, band);
 }
 
-static void fill(unsigned to[SIZE][SIZE])
+/* The tile that a band makes of its rows for the columns of another band's. */
+static unsigned *tile_of(unsigned *all, unsigned band, unsigned other)
 {
-    for (unsigned row = first_row(processor()); row < first_row(processor() + 1); row += 1)
-        for (unsigned column = 0; column < SIZE; column += 1)
-            to[row][column] = original(row * SIZE + column);
-    meet(&barrier, processors());
+    unsigned height = first_row(band + 1) - first_row(band);
+    return all + first_row(band) * SIZE + height * first_row(other);
 }
 
-static void transpose(unsigned from[SIZE][SIZE], unsigned to[SIZE][SIZE])
+static void make_tiles(unsigned *all)
 {
-    for (unsigned row = first_row(processor()); row < first_row(processor() + 1); row += 1)
-        for (unsigned column = 0; column < SIZE; column += 1)
-            to[row][column] = from[column][row];
+    unsigned from = first_row(processor()), to = first_row(processor() + 1);
+    for (unsigned other = 0; other < processors(); other += 1) {
+        unsigned *at = tile_of(all, processor(), other);
+        for (unsigned column = first_row(other); column < first_row(other + 1); column += 1)
+            for (unsigned row = from; row < to; row += 1)
+                *at++ = rows[row][column];
+    }
+}
+
+/* Fetches the tiles for this processor, those of the band after its own first. */
+static void fetch_tiles(unsigned *all)
+{
+    unsigned from = first_row(processor()), to = first_row(processor() + 1);
+    for (unsigned k = 1; k <= processors(); k += 1) {
+        unsigned band = (processor() + k) % processors();
+        const unsigned *at = tile_of(all, band, processor());
+        for (unsigned row = from; row < to; row += 1)
+            for (unsigned column = first_row(band); column < first_row(band + 1); column += 1)
+                rows[row][column] = *at++;
+    }
+}
+
+/* Tiles are made anew when all have met once more, so nobody reads them any longer. */
+static void transpose(unsigned *all)
+{
+    make_tiles(all);
     meet(&barrier, processors());
+    fetch_tiles(all);
 }
 
 /* Puts each number of a row where the bits of its place, read backwards, say. */
@@ -67,12 +115,14 @@ static void transform(unsigned row[SIZE], const unsigned roots[SIZE / 2])
 {
     reverse_places(row);
     for (unsigned half = 1; half < SIZE; half *= 2)
-        for (unsigned from = 0; from < SIZE; from += 2 * half)
-            for (unsigned k = from; k < from + half; k += 1) {
-                unsigned turned = row[k + half] * roots[(k - from) * (SIZE / 2 / half)] % MODULUS;
-                row[k + half] = (row[k] + MODULUS - turned) % MODULUS;
-                row[k] = (row[k] + turned) % MODULUS;
+        for (unsigned k = 0; k < half; k += 1) {
+            unsigned root = roots[k * (SIZE / 2 / half)];
+            for (unsigned at = k; at < SIZE; at += 2 * half) {
+                unsigned turned = product(row[at + half], root), before = row[at];
+                row[at + half] = sum_of(before, MODULUS - turned);
+                row[at] = sum_of(before, turned);
             }
+        }
 }
 
 /* Multiplies the numbers of a row by the powers of a root. */
@@ -80,52 +130,61 @@ static void turn(unsigned row[SIZE], unsigned root)
 {
     unsigned factor = 1;
     for (unsigned column = 0; column < SIZE; column += 1) {
-        row[column] = row[column] * factor % MODULUS;
-        factor = factor * root % MODULUS;
+        row[column] = product(row[column], factor);
+        factor = product(factor, root);
     }
 }
 
 /* A number of the transform, by the sum that defines it. */
 static unsigned defined(unsigned index, unsigned root)
 {
-    unsigned factor = power(root, index, MODULUS), sum = 0;
+    unsigned factor = root_power(root, index), sum = 0;
     for (unsigned k = COUNT; k > 0; k -= 1)
-        sum = (sum * factor + original(k - 1)) % MODULUS;
+        sum = sum_of(product(sum, factor), original(k - 1));
     return sum;
+}
+
+static void check(unsigned from, unsigned to, unsigned root)
+{
+    unsigned sum = 0, wrong = 0;
+    for (unsigned row = from; row < to; row += 1) {
+        unsigned column = 7 * row % SIZE;
+        if (row % (SIZE / CHECKED) == 0)
+            wrong += rows[row][column] != defined(row * SIZE + column, root);
+        for (column = 0; column < SIZE; column += 1)
+            sum += at_place(row * SIZE + column, rows[row][column]);
+    }
+    tell(sum, wrong);
 }
 
 static void work(void *unused)
 {
-    unsigned root = power(GENERATOR, (MODULUS - 1) / COUNT, MODULUS), roots[SIZE / 2];
+    unsigned root = root_power(GENERATOR, (MODULUS - 1) / COUNT), roots[SIZE / 2];
     unsigned from = first_row(processor()), to = first_row(processor() + 1);
     (void)unused;
     for (unsigned k = 0; k < SIZE / 2; k += 1)
-        roots[k] = power(root, SIZE * k, MODULUS);
-    fill(square[0]);
-    transpose(square[0], square[1]);
-    for (unsigned row = from; row < to; row += 1) {
-        transform(square[1][row], roots);
-        turn(square[1][row], power(root, row, MODULUS));
-    }
-    meet(&barrier, processors());
-    transpose(square[1], square[0]);
+        roots[k] = root_power(root, SIZE * k);
     for (unsigned row = from; row < to; row += 1)
-        transform(square[0][row], roots);
+        for (unsigned column = 0; column < SIZE; column += 1)
+            rows[row][column] = original(row * SIZE + column);
     meet(&barrier, processors());
-    transpose(square[0], square[1]);
+    phase(1);
+    transpose(tiles[0]);
     for (unsigned row = from; row < to; row += 1) {
-        unsigned column = 7 * row % SIZE;
-        if (square[1][row][column] != defined(row * SIZE + column, root))
-            fetch_and_add(&wrong, 1);
+        transform(rows[row], roots);
+        turn(rows[row], root_power(root, row));
     }
+    transpose(tiles[1]);
+    for (unsigned row = from; row < to; row += 1)
+        transform(rows[row], roots);
+    transpose(tiles[0]);
+    meet(&barrier, processors());
+    phase(2);
+    check(from, to, root);
 }
 
 int main(void)
 {
-    unsigned sum = 0;
     parallel(work, 0);
-    for (unsigned row = 0; row < SIZE; row += 1)
-        for (unsigned column = 0; column < SIZE; column += 1)
-            sum = sum * 31 + square[1][row][column];
-    return report("fft", wrong, sum);
+    return report("fft");
 }

@@ -1,21 +1,57 @@
 /* LU: factors a matrix into a lower and an upper one by blocks, each of which is contiguous;
-   numbers modulo 65521, so that every order of the processors gives the same. A processor works on
-   the blocks that are its own. Each checks its part of the product; processor 0 prints a sum of the
-   factors.
+   numbers modulo 65521, so that every order of the processors gives the same. The processors stand
+   in a grid, and a block is that one's whose row and column in the grid it has, in turn. Each
+   checks some rows of the product.
 
-   Layout: a block of B x B words is read whole by the processors of its row and column, and
-   written by one. With B = 8 it has 256 bytes, so blocks of memory of 256 bytes fetch it by one
-   request. */
+   Layout: a block of B x B words is read whole by the processors of its row and column, and written
+   by its owner. With B = 8 it has 256 bytes, so blocks of memory of 256 bytes fetch it by one
+   request. The blocks of an owner stand side by side, and are at home there. */
 #include "kernel.h"
 
 #ifndef SIZE
 #define SIZE 32
 #endif
-enum { B = 8, BLOCKS = SIZE / B, MODULUS = 65521 };
+enum { B = 8, BLOCKS = SIZE / B, MODULUS = 65521, CHECKED = 8 };
+enum { ROOM = (BLOCKS + MOST) * (BLOCKS + MOST) };
 
-static unsigned tile[BLOCKS][BLOCKS][B][B] __attribute__((aligned(4096)));
+_Static_assert(SIZE % B == 0, "the matrix is blocks");
+
+/* Each owner has an equal part of the room, and uses the first of it. */
+static unsigned tiles[ROOM][B][B] __attribute__((aligned(4096)));
 static struct barrier barrier;
-static unsigned wrong;
+
+/* The grid of processors, and how many blocks of a row an owner has. */
+struct grid {
+    unsigned height;
+    unsigned width;
+    unsigned across;
+};
+
+static struct grid make_grid(void)
+{
+    struct grid grid = {1, processors(), 0};
+    for (unsigned height = 2; height * height <= processors(); height += 1)
+        if (processors() % height == 0)
+            grid = (struct grid){height, processors() / height, 0};
+    grid.across = (BLOCKS + grid.width - 1) / grid.width;
+    return grid;
+}
+
+static unsigned owner_of(const struct grid *grid, unsigned row, unsigned column)
+{
+    return row % grid->height * grid->width + column % grid->width;
+}
+
+static unsigned (*block(const struct grid *grid, unsigned row, unsigned column))[B]
+{
+    unsigned first = owner_of(grid, row, column) * (ROOM / processors());
+    return tiles[first + row / grid->height * grid->across + column / grid->width];
+}
+
+static int is_mine(const struct grid *grid, unsigned row, unsigned column)
+{
+    return owner_of(grid, row, column) == processor();
+}
 
 /* An element of the matrix, before it is factored. */
 static unsigned original(unsigned row, unsigned column)
@@ -23,24 +59,17 @@ static unsigned original(unsigned row, unsigned column)
     return row == column ? 40000 + row : (row * 331 + column * 577 + 1) % 1000;
 }
 
-static unsigned *element(unsigned row, unsigned column)
-{
-    return &tile[row / B][column / B][row % B][column % B];
-}
-
-static int is_mine(unsigned row, unsigned column)
-{
-    return (row * BLOCKS + column) % processors() == processor();
-}
-
-/* Subtracts the product of the first so many columns of one block and rows of another. */
+/* Subtracts the product of a block of columns and one of rows. The remainders of B products are
+   added up in a register. */
 static void subtract(unsigned to[B][B], unsigned left[B][B], unsigned right[B][B])
 {
     for (unsigned row = 0; row < B; row += 1)
-        for (unsigned column = 0; column < B; column += 1)
+        for (unsigned column = 0; column < B; column += 1) {
+            unsigned sum = 0;
             for (unsigned k = 0; k < B; k += 1)
-                to[row][column] = (to[row][column] + MODULUS
-                                   - left[row][k] * right[k][column] % MODULUS) % MODULUS;
+                sum += left[row][k] * right[k][column] % MODULUS;
+            to[row][column] = (to[row][column] + B * MODULUS - sum) % MODULUS;
+        }
 }
 
 static void factor(unsigned block[B][B])
@@ -48,10 +77,11 @@ static void factor(unsigned block[B][B])
     for (unsigned k = 0; k < B; k += 1) {
         unsigned inverse = power(block[k][k], MODULUS - 2, MODULUS);
         for (unsigned row = k + 1; row < B; row += 1) {
-            block[row][k] = block[row][k] * inverse % MODULUS;
+            unsigned factor = block[row][k] * inverse % MODULUS;
+            block[row][k] = factor;
             for (unsigned column = k + 1; column < B; column += 1)
                 block[row][column] = (block[row][column] + MODULUS
-                                      - block[row][k] * block[k][column] % MODULUS) % MODULUS;
+                                      - factor * block[k][column] % MODULUS) % MODULUS;
         }
     }
 }
@@ -59,84 +89,100 @@ static void factor(unsigned block[B][B])
 /* A block right of the diagonal: its rows by the lower factor. */
 static void solve_right(unsigned block[B][B], unsigned diagonal[B][B])
 {
-    for (unsigned k = 0; k < B; k += 1)
-        for (unsigned row = k + 1; row < B; row += 1)
-            for (unsigned column = 0; column < B; column += 1)
-                block[row][column] = (block[row][column] + MODULUS
-                                      - diagonal[row][k] * block[k][column] % MODULUS) % MODULUS;
+    for (unsigned row = 1; row < B; row += 1)
+        for (unsigned column = 0; column < B; column += 1) {
+            unsigned sum = 0;
+            for (unsigned k = 0; k < row; k += 1)
+                sum += diagonal[row][k] * block[k][column] % MODULUS;
+            block[row][column] = (block[row][column] + B * MODULUS - sum) % MODULUS;
+        }
 }
 
 /* A block below the diagonal: its columns by the upper factor. */
 static void solve_below(unsigned block[B][B], unsigned diagonal[B][B])
 {
-    for (unsigned k = 0; k < B; k += 1) {
-        unsigned inverse = power(diagonal[k][k], MODULUS - 2, MODULUS);
+    for (unsigned column = 0; column < B; column += 1) {
+        unsigned inverse = power(diagonal[column][column], MODULUS - 2, MODULUS);
         for (unsigned row = 0; row < B; row += 1) {
-            block[row][k] = block[row][k] * inverse % MODULUS;
-            for (unsigned column = k + 1; column < B; column += 1)
-                block[row][column] = (block[row][column] + MODULUS
-                                      - block[row][k] * diagonal[k][column] % MODULUS) % MODULUS;
+            unsigned sum = 0;
+            for (unsigned k = 0; k < column; k += 1)
+                sum += block[row][k] * diagonal[k][column] % MODULUS;
+            block[row][column] = (block[row][column] + B * MODULUS - sum) % MODULUS * inverse
+                                 % MODULUS;
         }
     }
 }
 
-static void fill(void)
+static void fill(const struct grid *grid)
 {
     for (unsigned row = 0; row < SIZE; row += 1)
         for (unsigned column = 0; column < SIZE; column += 1)
-            if (is_mine(row / B, column / B))
-                *element(row, column) = original(row, column);
+            if (is_mine(grid, row / B, column / B))
+                block(grid, row / B, column / B)[row % B][column % B] = original(row, column);
 }
 
-/* One step: the block of the diagonal, then its row and column, then all behind them. */
-static void eliminate(unsigned k)
+/* One step: the block of the diagonal, then its row and column, then all after them. The owner of
+   the next block of the diagonal makes it last itself, so none waits for the others there. */
+static void eliminate(const struct grid *grid, unsigned k)
 {
-    if (is_mine(k, k))
-        factor(tile[k][k]);
+    if (is_mine(grid, k, k))
+        factor(block(grid, k, k));
     meet(&barrier, processors());
     for (unsigned other = k + 1; other < BLOCKS; other += 1) {
-        if (is_mine(k, other))
-            solve_right(tile[k][other], tile[k][k]);
-        if (is_mine(other, k))
-            solve_below(tile[other][k], tile[k][k]);
+        if (is_mine(grid, k, other))
+            solve_right(block(grid, k, other), block(grid, k, k));
+        if (is_mine(grid, other, k))
+            solve_below(block(grid, other, k), block(grid, k, k));
     }
     meet(&barrier, processors());
     for (unsigned row = k + 1; row < BLOCKS; row += 1)
         for (unsigned column = k + 1; column < BLOCKS; column += 1)
-            if (is_mine(row, column))
-                subtract(tile[row][column], tile[row][k], tile[k][column]);
+            if (is_mine(grid, row, column))
+                subtract(block(grid, row, column), block(grid, row, k), block(grid, k, column));
+}
+
+static unsigned element(const struct grid *grid, unsigned row, unsigned column)
+{
+    return block(grid, row / B, column / B)[row % B][column % B];
 }
 
 /* Whether the product of the factors has the element of the matrix here. */
-static int is_right(unsigned row, unsigned column)
+static int is_right(const struct grid *grid, unsigned row, unsigned column)
 {
-    unsigned sum = row <= column ? *element(row, column) : 0;
+    unsigned sum = row <= column ? element(grid, row, column) : 0;
     for (unsigned k = 0; k < row && k <= column; k += 1)
-        sum = (sum + *element(row, k) * *element(k, column)) % MODULUS;
+        sum = (sum + element(grid, row, k) * element(grid, k, column)) % MODULUS;
     return sum % MODULUS == original(row, column);
+}
+
+static void check(const struct grid *grid)
+{
+    unsigned sum = 0, wrong = 0;
+    for (unsigned row = processor(); row < SIZE; row += processors())
+        for (unsigned column = 0; column < SIZE; column += 1) {
+            sum += at_place(row * SIZE + column, element(grid, row, column));
+            if (row % CHECKED == CHECKED - 1)
+                wrong += !is_right(grid, row, column);
+        }
+    tell(sum, wrong);
 }
 
 static void work(void *unused)
 {
+    struct grid grid = make_grid();
     (void)unused;
-    fill();
+    fill(&grid);
     meet(&barrier, processors());
-    for (unsigned k = 0; k < BLOCKS; k += 1) {
-        eliminate(k);
-        meet(&barrier, processors());
-    }
-    for (unsigned row = processor(); row < SIZE; row += processors())
-        for (unsigned column = 0; column < SIZE; column += 1)
-            if (!is_right(row, column))
-                fetch_and_add(&wrong, 1);
+    phase(1);
+    for (unsigned k = 0; k < BLOCKS; k += 1)
+        eliminate(&grid, k);
+    meet(&barrier, processors());
+    phase(2);
+    check(&grid);
 }
 
 int main(void)
 {
-    unsigned sum = 0;
     parallel(work, 0);
-    for (unsigned row = 0; row < SIZE; row += 1)
-        for (unsigned column = 0; column < SIZE; column += 1)
-            sum = sum * 31 + *element(row, column);
-    return report("lu", wrong, sum);
+    return report("lu");
 }

@@ -1,76 +1,112 @@
-/* Radix sort: numbers are sorted by eight bits at a time. Each processor counts the digits of its
-   part, all add up where their numbers go, and each moves its own. Processor 0 checks the order and
-   the sum.
+/* Radix sort: numbers are sorted by eight bits at a time. Each processor sorts its part by a digit
+   into a place of its own; then each fetches what belongs into its part of the whole, run by run.
+   Each checks the order of its part; the sums before and after are compared.
 
-   Layout: a processor reads its part in one stretch, so blocks of 1024 bytes of `keys` are
-   fetched by fewer requests; where numbers go is scattered, so in large blocks of the target two
-   processors meet. */
+   Layout: a processor writes into its own parts alone, which are at home there. What it fetches are
+   runs: a part is fetched by blocks, of which all is wanted but at a run's ends. */
 #include "kernel.h"
 
 #ifndef SIZE
-#define SIZE 1024
+#define SIZE 4096
 #endif
-enum { DIGITS = 256, MOST = 16 };
+enum { BITS = 8, DIGITS = 1 << BITS, PASSES = 2 };
 
-static unsigned keys[2][SIZE] __attribute__((aligned(4096)));
+static unsigned keys[SIZE] __attribute__((aligned(4096)));
+static unsigned sorted[SIZE] __attribute__((aligned(4096)));
 static unsigned counts[MOST][DIGITS] __attribute__((aligned(4096)));
 static struct barrier barrier;
+static unsigned before IN_OWN_LINE;
+static unsigned after IN_OWN_LINE;
 
-static unsigned first_of(unsigned part)
+static unsigned digit_of(unsigned key, unsigned pass)
 {
-    return part * SIZE / processors();
+    return key >> BITS * pass & (DIGITS - 1);
 }
 
-static void count(const unsigned *from, unsigned shift)
+static void fill(unsigned from, unsigned to)
 {
-    unsigned *own = counts[processor()];
-    for (unsigned digit = 0; digit < DIGITS; digit += 1)
-        own[digit] = 0;
-    for (unsigned k = first_of(processor()); k < first_of(processor() + 1); k += 1)
-        own[from[k] >> shift & (DIGITS - 1)] += 1;
+    unsigned sum = 0;
+    for (unsigned k = from; k < to; k += 1) {
+        keys[k] = next_of(next_of(k)) >> (32 - BITS * PASSES);
+        sum += keys[k];
+    }
+    fetch_and_add(&before, sum);
 }
 
-/* Where this processor's numbers of each digit go. */
-static void find_places(unsigned *places)
+/* Sorts this processor's part by a digit. */
+static void sort_part(unsigned from, unsigned to, unsigned pass)
 {
-    unsigned place = 0;
+    unsigned places[DIGITS] = {0}, place = from, *own = counts[processor()];
+    for (unsigned k = from; k < to; k += 1)
+        places[digit_of(keys[k], pass)] += 1;
+    for (unsigned digit = 0; digit < DIGITS; digit += 1) {
+        unsigned count = places[digit];
+        own[digit] = count;
+        places[digit] = place;
+        place += count;
+    }
+    for (unsigned k = from; k < to; k += 1)
+        sorted[places[digit_of(keys[k], pass)]++] = keys[k];
+}
+
+/* Copies what of a run, which goes to a place of the whole, belongs into this processor's part. */
+static void fetch_run(const unsigned *run, unsigned count, unsigned place, unsigned from,
+                      unsigned to)
+{
+    unsigned first = place < from ? from - place : 0;
+    unsigned last = place + count > to ? to - place : count;
+    for (unsigned k = first; k < last; k += 1)
+        keys[place + k] = run[k];
+}
+
+/* Fetches this processor's part: the runs of each digit, by the parts in which they are. */
+static void fetch(unsigned from, unsigned to)
+{
+    unsigned at[MOST], place = 0;
+    for (unsigned part = 0; part < processors(); part += 1)
+        at[part] = first_of(SIZE, part);
     for (unsigned digit = 0; digit < DIGITS; digit += 1)
         for (unsigned part = 0; part < processors(); part += 1) {
-            if (part == processor())
-                places[digit] = place;
-            place += counts[part][digit];
+            unsigned count = counts[part][digit];
+            if (place < to && place + count > from)
+                fetch_run(&sorted[at[part]], count, place, from, to);
+            at[part] += count;
+            place += count;
         }
+}
+
+static void check(unsigned from, unsigned to)
+{
+    unsigned sum = 0, wrong = 0, all = 0;
+    for (unsigned k = from; k < to; k += 1) {
+        wrong += k != 0 && keys[k - 1] > keys[k];
+        all += keys[k];
+        sum += at_place(k, keys[k]);
+    }
+    fetch_and_add(&after, all);
+    tell(sum, wrong);
 }
 
 static void work(void *unused)
 {
-    unsigned places[DIGITS];
+    unsigned from = first_of(SIZE, processor()), to = first_of(SIZE, processor() + 1);
     (void)unused;
-    for (unsigned pass = 0; pass < 4; pass += 1) {
-        const unsigned *from = keys[pass & 1];
-        unsigned *to = keys[~pass & 1];
-        count(from, 8 * pass);
+    fill(from, to);
+    meet(&barrier, processors());
+    phase(1);
+    for (unsigned pass = 0; pass < PASSES; pass += 1) {
+        sort_part(from, to, pass);
         meet(&barrier, processors());
-        find_places(places);
-        for (unsigned k = first_of(processor()); k < first_of(processor() + 1); k += 1)
-            to[places[from[k] >> (8 * pass) & (DIGITS - 1)]++] = from[k];
+        fetch(from, to);
         meet(&barrier, processors());
     }
+    phase(2);
+    check(from, to);
 }
 
 int main(void)
 {
-    unsigned seed = 5, before = 0, after = 0, wrong = 0, sum = 0;
-    for (unsigned k = 0; k < SIZE; k += 1) {
-        seed = next_of(seed);
-        keys[0][k] = seed;
-        before += seed;
-    }
     parallel(work, 0);
-    for (unsigned k = 0; k < SIZE; k += 1) {
-        wrong += k != 0 && keys[0][k - 1] > keys[0][k];
-        after += keys[0][k];
-        sum = sum * 31 + keys[0][k];
-    }
-    return report("radix", wrong + (before != after), sum);
+    tell(0, before != after);
+    return report("radix");
 }
