@@ -15,7 +15,7 @@ objdump, and is a fence for `list`.
 
 Then `readelf -hlW` reads the files that `gen` and `asm` write: the header and the segments must be
 those that are stated, without a warning. qemu-riscv32 runs them where they may be run: `hello` of
-docs/USING.md, and `gen`'s behind a start that says that there is one processor; it must print what
+docs/REFERENCE.md, and `gen`'s behind a start that says that there is one processor; it must print what
 `one` prints."""
 import argparse, pathlib, random, re, shutil, struct, subprocess, sys, tempfile
 

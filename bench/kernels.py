@@ -5,17 +5,18 @@ runtime/examples that print the same for every number of processors.
     bench/kernels.py PROGRAM [ORDERS [NAME..]]
 
 PROGRAM is the shasta that was built; NAME is a kernel or one of SMALL below (all), ORDERS how many
-orders of `sim` are tried (10). Each runs by `one`; by `sim` under the orders; by `sim` with losses on 4 nodes; by `sim` on
-nodes of two processors; and by `run`, each time with a replay of its record, on 1, 2, 4, 8 and 16
-nodes. Each run must print what `one` prints on one processor, and end with 0 everywhere; a replay what
-its run printed. The script tells what differs, then how many messages `sim` on 4 nodes takes by order
-0, with lines of 64 bytes and with the layout of programs/NAME.layout where there is one."""
+orders of `sim` are tried (10). Each runs by `one`; by `sim` under the orders; by `sim` with losses on
+4 nodes; by `sim` on nodes of two processors; by `sim` on 16 nodes with the layout of
+programs/NAME.layout where there is one; and by `run`, each time with a replay of its record, on 1, 2,
+4, 8 and 16 nodes. Each run must print what `one` prints on one processor, and end with 0 everywhere;
+a replay what its run printed. The script tells what differs, then how many messages `sim` on 16 nodes
+takes by order 0, with lines of 64 bytes and with the layout."""
 import pathlib, re, shutil, subprocess, sys, tempfile
 
 root = pathlib.Path(__file__).resolve().parent.parent
 BUILD = ["riscv64-unknown-elf-gcc", f"--specs={root}/runtime/shasta.specs", "-DINTEGER_PRINTF", "-O2",
          "-Wl,--defsym=__heap_size=0x10000"]
-SMALL = ("all", "file", "heap", "hello", "numbers", "threads", "words")
+SMALL = ("all", "file", "formats", "heap", "hello", "numbers", "posix", "sizes", "threads", "words")
 NODES = ("1", "2", "4", "8", "16")
 LOSSES = ("0", "5", "77")
 BUDGET = ["--budget", "4294967295"]
@@ -31,13 +32,14 @@ def said(program, *words):
     return rest[: int(head.split()[1])]
 
 
-def differing(program, file, orders):
+def differing(program, file, orders, layout):
     """The ways in which a kernel prints otherwise than alone, and how many runs there were."""
     alone = said(program, "one", file)
     ways = [["one", file, "--nodes", n] for n in NODES]
     ways += [["sim", file, "--nodes", n, "--order", str(k)] for n in NODES for k in range(orders)]
     ways += [["sim", file, "--nodes", "4", "--loss", loss] for loss in LOSSES]
     ways += [["sim", file, "--nodes", n, "--per-node", "2"] for n in NODES[:4]]
+    ways += [["sim", file, "--nodes", "16", *layout, "--order", "1"]] if layout else []
     differ = [way for way in ways if said(program, *way) != alone or alone is None]
     for n in NODES:
         way = ["run", file, "--nodes", n, "--record", f"{file}.run", "--brief", *BUDGET]
@@ -49,8 +51,8 @@ def differing(program, file, orders):
 
 
 def messages(program, file, *layout):
-    """How many messages four nodes send."""
-    call = subprocess.run([program, "sim", file, "--nodes", "4", *layout, *BUDGET],
+    """How many messages sixteen nodes send."""
+    call = subprocess.run([program, "sim", file, "--nodes", "16", *layout, *BUDGET],
                           capture_output=True, text=True)
     return sum(map(int, re.findall(r"messages (\d+)$", call.stdout, re.M)))
 
@@ -70,14 +72,15 @@ def main():
                 shutil.copy(root / f"runtime/examples/{name}.elf", file)
             else:
                 subprocess.run([*BUILD, root / f"programs/{name}.c", "-o", file], check=True)
-            differ, runs = differing(program, file, orders)
+            path = root / f"programs/{name}.layout"
+            layout = ["--layout", str(path)] if path.is_file() else []
+            differ, runs = differing(program, file, orders, layout)
             failed += len(differ)
             for way in differ:
                 print(f"{name}: {' '.join(way)} prints otherwise")
             print(f"{name}: {runs} runs, {len(differ)} differ; messages {messages(program, file)}", end="")
-            layout = root / f"programs/{name}.layout"
-            if layout.is_file():
-                print(f", with its layout {messages(program, file, '--layout', layout)}", end="")
+            if layout:
+                print(f", with its layout {messages(program, file, *layout)}", end="")
             print(flush=True)
     return 1 if failed else 0
 

@@ -1,4 +1,4 @@
-"""Why a file is refused, judged anew from the rules that docs/USING.md states, without the program.
+"""Why a file is refused, judged anew from the rules that docs/REFERENCE.md states, without the program.
 
 `executable` and `record` give the refusal as the program tells it, or None, and what was read;
 `layout`, `blocks` and `code` the refusal alone."""
