@@ -1,6 +1,6 @@
 /* Two checksums of words in read-only memory, Adler-32 by remainders and FNV-1a by products: each
    processor makes those of some words, then processor 0 prints them. */
-#include <shasta.h>
+#include <shasta_short.h>
 #include <stdio.h>
 
 static const char *const words[] = {"Wikipedia", "foobar", "shasta", ""};

@@ -1,7 +1,7 @@
 /* The greatest common divisors of all pairs of numbers up to a limit, by remainders: each processor
    makes some rows of the table. Then processor 0 prints the sum of the table, and how many remainders
    the longest way to a divisor takes. */
-#include <shasta.h>
+#include <shasta_short.h>
 #include <stdio.h>
 
 enum { SIDE = 40 };

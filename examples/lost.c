@@ -1,5 +1,5 @@
-/* A lost update, for docs/USING.md: each processor pays into an account, less a fee, without a lock;
-   behind a barrier processor 0 prints the balance. */
+/* A lost update, for docs/TUTORIAL.md: each processor pays into an account, less a fee, without a lock;
+   after a barrier processor 0 prints the balance. */
 #include "bare.h"
 
 enum { ROUNDS = 10, SUM = 100 };

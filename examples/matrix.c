@@ -1,7 +1,7 @@
 /* The product of two matrices of signed numbers, in 64 bits: each processor makes some of its rows.
    Then processor 0 prints the two halves of its trace, and the mean of each matrix, which is rounded
    towards zero. */
-#include <shasta.h>
+#include <shasta_short.h>
 #include <stdio.h>
 
 enum { SIDE = 12 };

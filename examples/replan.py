@@ -129,4 +129,5 @@ def main():
         (folder / name).write_bytes(file.data())
 
 
-main()
+if __name__ == "__main__":
+    main()

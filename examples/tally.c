@@ -1,5 +1,5 @@
-/* The program of docs/USING.md: each processor adds up its part of the numbers 1 to 100 and adds this
-   to a total, under a lock; behind a barrier processor 0 prints the total. */
+/* Of lesson 1 of docs/TUTORIAL.md: each processor adds up its part of the numbers 1 to 100 and adds this
+   to a total, under a lock; after a barrier processor 0 prints the total. */
 #include "bare.h"
 
 enum { NUMBERS = 100 };
