@@ -9,3 +9,4 @@ pub mod Running
 pub mod Words
 pub mod Stretching
 pub mod Tallying
+pub mod Parts

@@ -9,7 +9,7 @@ ghost use Rattle.dsm_core.specs.node_model.Outcome.{IsOutcomeOf};
 ghost use Rattle.dsm_core.specs.rewriting_law.Bounds.{RunsRewritten};
 ghost use Rattle.dsm_core.specs.CoreParts.{work_in, work_of, core_of, event_of, outcome_of};
 ghost use Rattle.timed_sim.specs.Clock.{AreInRange, IsOutcomeByClock, clock_of, next};
-ghost use Rattle.timed_sim.specs.Clock.{opening_times};
+ghost use Rattle.timed_sim.specs.Clock.{opening_times, total_spent};
 ghost use Rattle.templates.specs.Code.{HasCode};
 ghost use Rattle.timed_sim.specs.Stored.{due_of, times_in, AreSameTimes, AreWithin, IsReady};
 ghost use Rattle.timed_sim.specs.Stored.{HasMade, HaveBeenMade, IsKept, HasEnded};
@@ -67,6 +67,8 @@ pub fn simulate_by_clock(
         (outcome_of t.outcome) t.spent.items t.time t.steps) }
     // What each node has spent its time on adds up to the time of the run.
     ensures sums { IfOk result (λ t. All (λ s. clock_of s ≡ t.time) t.spent.items) }
+    // Each step of the original is a word that a node executed.
+    ensures part { IfOk result (λ t. t.steps ≤ (total_spent t.spent.items).words) }
     ensures most { IfOk result (λ t. t.time ≤ 2 ^ 100) }
     ensures few { IfOk result (λ t. t.steps ≤ 2 ^ 100) }
 {

@@ -7,13 +7,14 @@ use Rattle.dsm_core.specs.node_model.Core.{Core, IsOver}
 use Rattle.dsm_core.specs.node_model.Outcome.{IsOutcomeOf}
 use Rattle.dsm_core.specs.run_order.OwnRun.{Stamped, StandsForOwnRun, run_of}
 use Rattle.dsm_core.specs.rewriting_law.Bounds.{RunsRewritten}
-use Rattle.dsm_core.specs.CoreParts.{work_of, core_of, outcome_of}
+use Rattle.dsm_core.specs.CoreParts.{work_in, work_of, core_of, outcome_of}
 use Rattle.timed_sim.specs.declared.costs.Costs.{Costs}
 use Rattle.timed_sim.specs.declared.counting.StepCount.{StepCount}
 use Rattle.timed_sim.specs.declared.run.Timed.{Timed}
-use Rattle.timed_sim.specs.Clock.{IsOutcomeByClock, clock_of, opening_times}
+use Rattle.timed_sim.specs.Clock.{IsOutcomeByClock, clock_of, opening_times, total_spent}
 use Rattle.timed_sim.specs.Stored.{AreWithin, HasEnded, moment_of, plan_in, times_in}
 use Rattle.timed_sim.proofs.Made.{opening_within, plan_kept, within_kept, within_more, within_same}
+use Rattle.timed_sim.proofs.Parts.{part}
 use Rattle.timed_sim.proofs.Running.{all_ok, ends_within, not_so_long, outcome_by_clock, sums, way_all, way_first, way_kept, way_of}
 use Rattle.timed_sim.proofs.run.simulate_by_clock.Goals as goal
 
@@ -132,6 +133,17 @@ returns-then-not-branch-clause-sums c =
     (λ (t : Timed). All (λ s. clock_of s ≡ t.time) t.spent.items)
     (λ t ended. sums q.core.layout.nodes (times_in q) t.spent.items t.time ended)
     c.timed.ensures.times
+
+pub returns-then-not-branch-clause-part : goal.returns-then-not-branch-clause-part
+returns-then-not-branch-clause-part c =
+    let work = work_in c.args.work.now in
+    let plan = c.args.plan.now in
+    let costs = c.args.costs.now in
+    IfOk-weaker c.timed.result
+    (λ (t : Timed). IsOutcomeByClock work plan costs (outcome_of t.outcome) t.spent.items t.time t.steps)
+    (λ (t : Timed). t.steps ≤ (total_spent t.spent.items).words)
+    (λ t is. part work plan costs (outcome_of t.outcome) t.spent.items t.time t.steps is)
+    (returns-then-not-branch-clause-outcome c)
 
 pub returns-then-not-branch-clause-most : goal.returns-then-not-branch-clause-most
 returns-then-not-branch-clause-most c =
