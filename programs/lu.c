@@ -60,7 +60,8 @@ static unsigned original(unsigned row, unsigned column)
 }
 
 /* Subtracts the product of a block of columns and one of rows. The remainders of B products are
-   added up in a register. */
+   added up in a register; by itself the function has registers for all that its loops need. */
+__attribute__((noinline))
 static void subtract(unsigned to[B][B], unsigned left[B][B], unsigned right[B][B])
 {
     for (unsigned row = 0; row < B; row += 1)
