@@ -14,8 +14,8 @@ takes by order 0, with lines of 64 bytes and with the layout."""
 import pathlib, re, shutil, subprocess, sys, tempfile
 
 root = pathlib.Path(__file__).resolve().parent.parent
-BUILD = ["riscv64-unknown-elf-gcc", f"--specs={root}/runtime/shasta.specs", "-DINTEGER_PRINTF", "-O2",
-         "-Wl,--defsym=__heap_size=0x10000"]
+BUILD = ["riscv64-unknown-elf-gcc", f"--specs={root}/runtime/shasta.specs", "-DINTEGER_PRINTF", "-O2"]
+HEAP, OPENMP = ["-Wl,--defsym=__heap_size=0x10000"], ["-fopenmp", "-Wl,--defsym=__heap_size=0x200000"]
 SMALL = ("all", "file", "formats", "heap", "hello", "numbers", "posix", "sizes", "threads", "words")
 NODES = ("1", "2", "4", "8", "16")
 LOSSES = ("0", "5", "77")
@@ -71,7 +71,8 @@ def main():
             if name in SMALL:
                 shutil.copy(root / f"runtime/examples/{name}.elf", file)
             else:
-                subprocess.run([*BUILD, root / f"programs/{name}.c", "-o", file], check=True)
+                own = OPENMP if name.endswith("_openmp") else HEAP
+                subprocess.run([*BUILD, *own, root / f"programs/{name}.c", "-o", file], check=True)
             path = root / f"programs/{name}.layout"
             layout = ["--layout", str(path)] if path.is_file() else []
             differ, runs = differing(program, file, orders, layout)

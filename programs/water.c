@@ -6,88 +6,10 @@
 
    Layout: the molecules that a processor moves are at home there, and all read them; so are the
    forces that it hands out, of which each other reads its part. */
-#include "kernel.h"
+#include "water.h"
 
-#ifndef SIZE
-#define SIZE 64
-#endif
-enum { STEPS = 2, SIDE = 4096, HALF = SIZE / 2 };
-
-struct molecule {
-    int at[3];
-    int charge;
-};
-
-struct force {
-    int along[3];
-    int unused;
-};
-
-static struct molecule molecules[SIZE] __attribute__((aligned(4096)));
-static struct molecule alone[SIZE] __attribute__((aligned(4096)));
 static struct force forces[MOST][SIZE] __attribute__((aligned(4096)));
 static struct barrier barrier;
-
-/* The force by which a molecule is driven away from another, in registers. */
-static inline struct force force_of(struct molecule one, struct molecule other)
-{
-    int x = one.at[0] - other.at[0], y = one.at[1] - other.at[1], z = one.at[2] - other.at[2];
-    int square = 1 + x * x / 64 + y * y / 64 + z * z / 64;
-    int strength = 8192 * one.charge * other.charge;
-    return (struct force){{x * strength / square, y * strength / square, z * strength / square}, 0};
-}
-
-static void add(struct force *sum, struct force force)
-{
-    for (unsigned axis = 0; axis < 3; axis += 1)
-        sum->along[axis] += force.along[axis];
-}
-
-static void subtract(struct force *sum, struct force force)
-{
-    for (unsigned axis = 0; axis < 3; axis += 1)
-        sum->along[axis] -= force.along[axis];
-}
-
-static void move(struct molecule *molecule, struct force *speed, struct force force)
-{
-    for (unsigned axis = 0; axis < 3; axis += 1) {
-        speed->along[axis] += force.along[axis] / 16;
-        molecule->at[axis] = (molecule->at[axis] + speed->along[axis] / 64) & (SIDE - 1);
-    }
-}
-
-static void fill(unsigned from, unsigned to)
-{
-    for (unsigned one = from; one < to; one += 1) {
-        unsigned seed = next_of(next_of(one));
-        for (unsigned axis = 0; axis < 3; axis += 1) {
-            seed = next_of(seed);
-            molecules[one].at[axis] = (int)(seed >> 16) & (SIDE - 1);
-        }
-        molecules[one].charge = 1 + one % 3;
-        alone[one] = molecules[one];
-    }
-}
-
-/* Finds the forces of the pairs that begin with a processor's own: each with those half around. */
-static void find(unsigned from, unsigned to, struct force found[SIZE])
-{
-    for (unsigned one = 0; one < SIZE; one += 1)
-        found[one] = (struct force){{0}, 0};
-    for (unsigned one = from; one < to; one += 1) {
-        struct molecule own = molecules[one];
-        struct force sum = {{0}, 0};
-        unsigned last = HALF - (one >= HALF);
-        for (unsigned far = 1; far <= last; far += 1) {
-            unsigned other = one + far < SIZE ? one + far : one + far - SIZE;
-            struct force force = force_of(own, molecules[other]);
-            add(&sum, force);
-            subtract(&found[other], force);
-        }
-        add(&found[one], sum);
-    }
-}
 
 /* Hands out what was found for those from the processor's first on, as far as there is any. */
 static void hand_out(unsigned from, unsigned to, const struct force found[SIZE])
@@ -117,7 +39,9 @@ static void move_all(unsigned from, unsigned to, struct force *speeds)
 {
     struct force found[SIZE];
     for (unsigned step = 0; step < STEPS; step += 1) {
-        find(from, to, found);
+        clear(found);
+        for (unsigned one = from; one < to; one += 1)
+            find_pairs(one, found);
         hand_out(from, to, found);
         meet(&barrier, processors());
         for (unsigned one = from; one < to; one += 1)
@@ -131,12 +55,8 @@ static void move_alone(unsigned from, unsigned to, struct force *speeds)
 {
     struct force sums[SIZE];
     for (unsigned step = 0; step < STEPS; step += 1) {
-        for (unsigned one = from; one < to; one += 1) {
-            sums[one] = (struct force){{0}, 0};
-            for (unsigned other = 0; other < SIZE; other += 1)
-                if (other != one)
-                    add(&sums[one], force_of(alone[one], alone[other]));
-        }
+        for (unsigned one = from; one < to; one += 1)
+            sums[one] = all_forces(one);
         meet(&barrier, processors());
         for (unsigned one = from; one < to; one += 1)
             move(&alone[one], &speeds[one - from], sums[one]);
@@ -150,17 +70,15 @@ static void work(void *unused)
     unsigned sum = 0, wrong = 0;
     struct force speeds[SIZE] = {{{0}, 0}}, others[SIZE] = {{{0}, 0}};
     (void)unused;
-    fill(from, to);
+    for (unsigned one = from; one < to; one += 1)
+        place(one);
     meet(&barrier, processors());
     phase(1);
     move_all(from, to, speeds);
     phase(2);
     move_alone(from, to, others);
     for (unsigned one = from; one < to; one += 1)
-        for (unsigned axis = 0; axis < 3; axis += 1) {
-            wrong += molecules[one].at[axis] != alone[one].at[axis];
-            sum += at_place(3 * one + axis, (unsigned)molecules[one].at[axis]);
-        }
+        wrong += check(one, &sum);
     tell(sum, wrong);
 }
 
