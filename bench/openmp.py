@@ -34,7 +34,7 @@ def options():
     parser.add_argument("--by", default="sim")
     parser.add_argument("--seconds", type=int, default=60)
     parser.add_argument("--jobs", type=int, default=2)
-    return parser.parse_args()
+    return parser.parse_intermixed_args()
 
 
 def why_unfit(text):
@@ -51,8 +51,8 @@ def own_options(text):
 def built(asked, path, text, folder):
     """The program that is built of a test, or why none is."""
     program = f"{folder}/{path.parent.name}-{path.stem}.elf"
-    sources = [path, *(path.parent / name for name in
-                       re.findall(r"dg-additional-sources\s+\"?([\w.-]+)", text))]
+    others = re.findall(r"dg-additional-sources\s+\"?([\w. -]+)", text)
+    sources = [path, *(path.parent / name for names in others for name in names.split())]
     headers = [f"-I{folder}", f"-I{asked.folder}/.."]
     call = subprocess.run([*BUILD, *headers, *own_options(text), *sources, "-lm", "-o", program],
                           capture_output=True, text=True)

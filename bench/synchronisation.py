@@ -10,17 +10,24 @@ nodes of one processor. `barrier`: all come at once. `parallel`: of an empty fun
 come back. `lock, free`: nobody waits, and another node had it last; with its leaving, after a barrier
 whose own time is taken off. `lock, wanted`: all want it all the time, and write a word under it; from
 one holder to the next. With --threads the rows are those of synchronisation_threads.c, on 1, 4 and 16
-nodes, with as many threads: a region, a barrier, a part of a dynamic loop, a task, and a mutex of
-<pthread.h> as the wanted lock; of the last three the time is from one to the next of all threads. It
-prints tables of docs/C.md."""
+nodes, with as many threads, each below the runtime's own call where there is one: a region, a barrier,
+a part of a dynamic loop, a task, and a mutex of <pthread.h> as the wanted lock; of the last three the
+time is from one to the next of all threads. It prints tables of docs/C.md."""
 import pathlib, re, subprocess, sys, tempfile
 
 here = pathlib.Path(__file__).resolve().parent
 BUILD = ["riscv64-unknown-elf-gcc", f"--specs={here.parent}/runtime/shasta.specs", "-O2"]
 NODES, THREAD_NODES = (2, 3, 4, 8, 16), (1, 4, 16)
-THREAD_ROWS = (("region", "regions", False), ("barrier", "barriers", False),
-               ("part of a dynamic loop", "parts", True), ("task", "tasks", True),
-               ("mutex, wanted", "mutexes", True))
+# each row: its name, its function, what is built with it, and whether the turns are all threads'
+CALLS, OPENMP = ("-DCALLS",), ("-fopenmp",)
+THREAD_ROWS = (("`parallel` of an empty function", "nothing", CALLS, False),
+               ("a parallel region", "regions", OPENMP, False),
+               ("`meet` of all processors", "meets", (), False),
+               ("a barrier of OpenMP", "barriers", OPENMP, False),
+               ("`enter` and `leave`, all want the lock", "wants", (), True),
+               ("a mutex of `<pthread.h>`, all want it", "mutexes", OPENMP, True),
+               ("a part of a dynamic loop", "parts", OPENMP, True),
+               ("a task, made by one thread", "tasks", OPENMP, True))
 FEWER, MORE = 20, 60
 
 
@@ -60,8 +67,8 @@ def rows(viewer, folder):
 
 def thread_rows(viewer, folder):
     """The same of threads."""
-    for name, function, is_shared in THREAD_ROWS:
-        costs = [turn(viewer, folder, function, n, "-fopenmp") for n in THREAD_NODES]
+    for name, function, options, is_shared in THREAD_ROWS:
+        costs = [turn(viewer, folder, function, n, *options) for n in THREAD_NODES]
         yield name, [[part / (n if is_shared else 1) for part in both]
                      for n, both in zip(THREAD_NODES, costs)]
 

@@ -123,8 +123,12 @@ void omp_set_default_device(int device) OMP_NOTHING;
 int omp_get_initial_device(void) OMP_NOTHING;
 int omp_get_device_num(void) OMP_NOTHING;
 int omp_is_initial_device(void) OMP_NOTHING;
-int omp_pause_resource(int kind, int device) OMP_NOTHING;
-int omp_pause_resource_all(int kind) OMP_NOTHING;
+typedef enum omp_pause_resource_t {
+    omp_pause_soft = 1,
+    omp_pause_hard = 2
+} omp_pause_resource_t;
+int omp_pause_resource(omp_pause_resource_t kind, int device) OMP_NOTHING;
+int omp_pause_resource_all(omp_pause_resource_t kind) OMP_NOTHING;
 void omp_display_env(int is_verbose) OMP_NOTHING;
 
 /* Tasks. */

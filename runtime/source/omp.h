@@ -21,6 +21,7 @@ struct settings {
     unsigned teams;
     unsigned teams_limit;
     bool is_dynamic;
+    uintptr_t allocator;     /* of <omp.h>, where nothing is said; 0 is the usual one */
 };
 
 enum { STATIC = 1, DYNAMIC, GUIDED, AUTO, ORDERED = 0x100, MONOTONIC = (int)0x80000000u };

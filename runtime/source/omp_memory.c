@@ -1,11 +1,10 @@
 /* The allocators of <omp.h>. All memory is of one kind; what an allocator has of its own is how much it
    hands out, at which multiples, and what comes where there is no more. */
-#include "own.h"
+#include "omp.h"
 
 #include "../shasta.specs.d/omp.h"
 
 #include <malloc.h>
-#include <stdbool.h>
 #include <string.h>
 
 struct allocator {
@@ -23,8 +22,6 @@ struct head {
     size_t taken;            /* of its allocator */
     struct allocator *allocator;
 };
-
-static _Thread_local omp_allocator_handle_t standard;
 
 /* One of those that a program makes; 0 of those that there are. */
 static struct allocator *made(omp_allocator_handle_t allocator)
@@ -79,12 +76,13 @@ void omp_destroy_allocator(omp_allocator_handle_t allocator)
 
 void omp_set_default_allocator(omp_allocator_handle_t allocator)
 {
-    standard = allocator != omp_null_allocator ? allocator : omp_default_mem_alloc;
+    __shasta_own_settings(__shasta_task())->allocator = (uintptr_t)allocator;
 }
 
 omp_allocator_handle_t omp_get_default_allocator(void)
 {
-    return standard != omp_null_allocator ? standard : omp_default_mem_alloc;
+    uintptr_t allocator = __shasta_task()->settings->allocator;
+    return allocator != 0 ? (omp_allocator_handle_t)allocator : omp_default_mem_alloc;
 }
 
 /* Takes bytes of what an allocator may hand out, and says whether there were so many. */
@@ -92,11 +90,17 @@ static bool take(struct allocator *allocator, size_t bytes)
 {
     uintptr_t before = __atomic_load_n(&allocator->taken, __ATOMIC_RELAXED);
     do
-        if (bytes > allocator->most - before)
+        if (before > allocator->most || bytes > allocator->most - before)
             return false;
     while (!__atomic_compare_exchange_n(&allocator->taken, &before, before + bytes, 0,
                                         __ATOMIC_RELAXED, __ATOMIC_RELAXED));
     return true;
+}
+
+static void give_back(struct allocator *allocator, size_t bytes)
+{
+    if (allocator != 0)
+        __atomic_fetch_sub(&allocator->taken, bytes, __ATOMIC_RELAXED);
 }
 
 static void *block_of(struct allocator *allocator, size_t multiple, size_t bytes)
@@ -106,8 +110,7 @@ static void *block_of(struct allocator *allocator, size_t multiple, size_t bytes
         return 0;
     char *block = malloc(taken);
     if (block == 0) {
-        if (allocator != 0)
-            __atomic_fetch_sub(&allocator->taken, taken, __ATOMIC_RELAXED);
+        give_back(allocator, taken);
         return 0;
     }
     char *given = block + sizeof(struct head);
@@ -170,24 +173,29 @@ void omp_free(void *block, omp_allocator_handle_t allocator)
     if (block == 0)
         return;
     struct head head = ((struct head *)block)[-1];
-    if (head.allocator != 0)
-        __atomic_fetch_sub(&head.allocator->taken, head.taken, __ATOMIC_RELAXED);
+    give_back(head.allocator, head.taken);
     free(head.block);
 }
 
+/* What the block before had of its allocator counts for the new one. */
 void *omp_realloc(void *block, size_t bytes, omp_allocator_handle_t allocator,
                   omp_allocator_handle_t free_allocator)
 {
+    (void)free_allocator;
     if (block == 0)
         return omp_alloc(bytes, allocator);
     struct head head = ((struct head *)block)[-1];
     if (allocator == omp_null_allocator && head.allocator != 0)
         allocator = (omp_allocator_handle_t)(uintptr_t)head.allocator;
+    give_back(head.allocator, head.taken);
     void *given = omp_alloc(bytes, allocator);
+    if (given == 0 && bytes != 0) {
+        give_back(head.allocator, -head.taken);
+        return 0;
+    }
     if (given != 0)
         memcpy(given, block, bytes < head.bytes ? bytes : head.bytes);
-    if (given != 0 || bytes == 0)
-        omp_free(block, free_allocator);
+    free(head.block);
     return given;
 }
 

@@ -67,13 +67,13 @@ int omp_is_initial_device(void)
     return 1;
 }
 
-int omp_pause_resource(int kind, int device)
+int omp_pause_resource(omp_pause_resource_t kind, int device)
 {
     (void)kind, (void)device;
     return -1;
 }
 
-int omp_pause_resource_all(int kind)
+int omp_pause_resource_all(omp_pause_resource_t kind)
 {
     (void)kind;
     return -1;

@@ -7,7 +7,7 @@
 
 #include <stdbool.h>
 
-enum { MOST_PROCESSORS = 16, LINE_BYTES = 200, BINS = 13, PLACES = 8 };
+enum { MOST_PROCESSORS = 16, LINE_BYTES = 200, BINS = 13, PLACES = 8, MOST_HELD = PLACES - 2 };
 
 /* Where one waits for a lock. The one before it says in `granted` that it may go on, the one behind
    it says in `next` that it is there. */
@@ -16,10 +16,10 @@ struct shasta_place {
     unsigned granted SHASTA_IN_OWN_LINE;
 };
 
-/* The places of a processor, or of a thread, and for which lock each is taken; the last one is only
+/* The places of a processor, or of a thread, and for which lock each is taken; the last two are only
    for waiting. */
 struct places {
-    struct shasta_queue *held[PLACES - 1] SHASTA_IN_OWN_LINE;
+    struct shasta_queue *held[PLACES] SHASTA_IN_OWN_LINE;
     struct shasta_place place[PLACES];
 };
 

@@ -1,8 +1,9 @@
 /* Locks by queue (Mellor-Crummey and Scott): who comes puts its place behind the last one, and waits
    there, at a line of its own, until the one before it says that it may go on. Its place is taken
-   until it leaves. Each waits at one place at a time, so one of its places is always kept free: who
-   would hold a lock by the last one gives it up, and notes in the lock who is next. So anybody may
-   hold any number of locks. */
+   until it leaves. A thread waits at two places at most: while it rests it may give back the memory
+   of another one, under a lock of the runtime's own. So two of its places are always kept free: who
+   would hold a lock by one of the last two gives it up, and notes in the lock who is next. So anybody
+   may hold any number of locks. */
 #include "own.h"
 
 /* Stands for the place of one who holds a lock and has no place. Who comes behind it says so in the
@@ -13,7 +14,7 @@ static struct shasta_place no_place;
 static unsigned free_place(const struct places *places)
 {
     unsigned k = 0;
-    while (k < PLACES - 1 && places->held[k] != 0)
+    while (places->held[k] != 0)
         k += 1;
     return k;
 }
@@ -36,6 +37,7 @@ static void enter(struct shasta_queue *queue, void (*rest)(void))
     struct places *places = own.places;
     unsigned k = free_place(places);
     struct shasta_place *place = &places->place[k];
+    places->held[k] = queue;
     place->next = 0;
     place->granted = 0;
     struct shasta_place *before = __atomic_exchange_n(&queue->last, place, __ATOMIC_ACQ_REL);
@@ -47,10 +49,10 @@ static void enter(struct shasta_queue *queue, void (*rest)(void))
             rest();
         }
     }
-    if (k < PLACES - 1)
-        places->held[k] = queue;
-    else
-        hold_without_place(queue, place);
+    if (k < MOST_HELD)
+        return;
+    hold_without_place(queue, place);
+    places->held[k] = 0;
 }
 
 void __shasta_queue_enter(struct shasta_queue *queue)
@@ -97,7 +99,7 @@ static void hand_on(struct shasta_queue *queue, struct shasta_place *place,
 void __shasta_queue_leave(struct shasta_queue *queue)
 {
     struct places *places = own.places;
-    for (unsigned k = 0; k < PLACES - 1; k += 1)
+    for (unsigned k = 0; k < MOST_HELD; k += 1)
         if (places->held[k] == queue) {
             hand_on(queue, &places->place[k], &places->place[k].next);
             places->held[k] = 0;
@@ -108,7 +110,7 @@ void __shasta_queue_leave(struct shasta_queue *queue)
 
 void __shasta_give_up_places(struct places *places)
 {
-    for (unsigned k = 0; k < PLACES - 1; k += 1)
+    for (unsigned k = 0; k < MOST_HELD; k += 1)
         if (places->held[k] != 0) {
             hold_without_place(places->held[k], &places->place[k]);
             places->held[k] = 0;

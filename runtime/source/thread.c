@@ -36,10 +36,10 @@ static unsigned count_all(void)
 static _Noreturn void begin(void)
 {
     NOBODY_CALLED_THIS;
-    __shasta_bury();
     struct thread *self = own.running;
-    for (unsigned k = 0; k < PLACES - 1; k += 1)
+    for (unsigned k = 0; k < PLACES; k += 1)
         self->places.held[k] = 0;
+    __shasta_bury();
     __shasta_mark_stack(self);
     __shasta_thread_data_anew();
     __shasta_end_thread(self->function(self->argument));
