@@ -91,11 +91,17 @@ static void dependences(void)
 
 static void loops(void)
 {
-    unsigned char done[SIZE] = {0};
+    unsigned char done[SIZE] = {0}, lengths[57] = {0}, length = 0;
     unsigned sum = 0, total = 0, parts = 0;
+    static volatile unsigned none; /* 0, as the compiler can't know */
 #pragma omp parallel num_threads(THREADS)
 #pragma omp single
     {
+#pragma omp taskloop num_tasks(strict : 9) firstprivate(length)
+        for (int k = 0; k < 57; k += 1) {
+            length += 1;
+            lengths[k + 1 - length] = length;
+        }
 #pragma omp taskloop grainsize(7)
         for (int k = 0; k < SIZE; k += 1)
             done[k] += 1;
@@ -106,6 +112,9 @@ static void loops(void)
 #pragma omp taskloop reduction(+ : sum)
         for (unsigned k = 0; k < SIZE; k += 1)
             sum += k;
+#pragma omp taskloop reduction(+ : sum)
+        for (unsigned k = 0; k < none; k += 1)
+            sum += k;
 #pragma omp taskgroup task_reduction(+ : total)
         for (unsigned k = 0; k < SIZE; k += 1)
 #pragma omp task in_reduction(+ : total) firstprivate(k)
@@ -113,6 +122,7 @@ static void loops(void)
     }
     for (unsigned k = 0; k < SIZE; k += 1)
         wants(done[k] == 2, "loops of tasks");
+    wants(lengths[14] == 7 && lengths[21] == 6 && lengths[51] == 6, "tasks of like lengths");
     wants(sum == SIZE * (SIZE - 1) / 2, "a reduction of a loop of tasks");
     wants(total == SIZE * (SIZE - 1) / 2, "a reduction of tasks");
 #pragma omp parallel reduction(task, + : parts) num_threads(THREADS)

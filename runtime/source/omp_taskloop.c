@@ -18,7 +18,7 @@ void GOMP_taskgroup_end(void);
 void GOMP_taskgroup_reduction_register(uintptr_t *reductions);
 
 /* What a loop of tasks is cut into: so many tasks, of which the first `longer` ones have one iteration
-   more than the others; or the last one has what is left, where sizes are strict. */
+   more than the others; or the last one has what is left, where a grain size is strict. */
 struct cut {
     wide tasks;
     wide each;
@@ -38,8 +38,6 @@ static struct cut cut_loop(wide count, wide asked, unsigned flags, unsigned thre
         tasks = 1;
     if (tasks > count)
         tasks = count;
-    if (flags & LOOP_STRICT)
-        return (struct cut){tasks, (count + tasks - 1) / tasks, 0};
     return (struct cut){tasks, count / tasks, count % tasks};
 }
 
@@ -62,6 +60,14 @@ static void begin_group(const struct taskloop *loop, void *reductions)
         GOMP_taskgroup_reduction_register(reductions);
 }
 
+/* A loop without iterations has no group. Who would give its reductions back is told so by the word
+   that leads to their memory. */
+static void begin_no_group(const struct taskloop *loop, uintptr_t *reductions)
+{
+    if (!(loop->flags & LOOP_NOGROUP) && loop->flags & LOOP_REDUCTION)
+        reductions[2] = 0;
+}
+
 static void make_task(const struct taskloop *loop)
 {
     GOMP_task(loop->function, loop->data, loop->copy, loop->bytes, loop->align,
@@ -81,8 +87,10 @@ void GOMP_taskloop(void (*function)(void *), void *data, void (*copy)(void *, vo
     unsigned long span = step > 0 ? (unsigned long)end - (unsigned long)start
                                   : (unsigned long)start - (unsigned long)end;
     unsigned long by = step > 0 ? (unsigned long)step : -(unsigned long)step;
-    if (step > 0 ? start >= end : start <= end)
+    if (step > 0 ? start >= end : start <= end) {
+        begin_no_group(&loop, pair->reductions);
         return;
+    }
     wide count = (span - 1) / by + 1;
     struct cut cut = cut_loop(count, asked, flags, task->team != 0 ? task->team->size : 1);
     begin_group(&loop, pair->reductions);
@@ -111,8 +119,10 @@ void GOMP_taskloop_ull(void (*function)(void *), void *data, void (*copy)(void *
         uintptr_t *reductions;
     } *pair = data;
     bool up = flags & LOOP_UP;
-    if (up ? start >= end : start <= end)
+    if (up ? start >= end : start <= end) {
+        begin_no_group(&loop, pair->reductions);
         return;
+    }
     wide count = up ? (end - start - 1) / step + 1 : (start - end - 1) / -step + 1;
     struct cut cut = cut_loop(count, asked, flags, task->team != 0 ? task->team->size : 1);
     begin_group(&loop, pair->reductions);
